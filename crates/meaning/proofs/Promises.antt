@@ -1,0 +1,97 @@
+-- The promises, in one place. `ground` is what the one public call answers and leaves in the lent cells: see specs/Ground.
+use mathlib.Core.Path.{_≡_}
+use mathlib.Core.Logic.{_↔_}
+use mathlib.Core.List.{List, [], _∷_, flatten, List·Memᴰ}
+use Prim.Native.Nat.{ℕ, _+_, _-_, _*_, _≤_, _<_}
+use lib.ListN.{length, take, drop}
+use lib.Dec.{T}
+use Rattle.meaning.specs.Job.{negated, lessThan, Rule, Job, rowsOf, size, Sound}
+use Rattle.meaning.specs.Reading.{refused, accepted, reading}
+use Rattle.meaning.specs.Relevant.{Instance, passes, Listing}
+use Rattle.meaning.specs.List.{complete, stopped, full, entrySize, Begins}
+use Rattle.meaning.specs.Plain.{plainCount}
+use Rattle.meaning.specs.Group.{Group, group}
+use Rattle.meaning.specs.Ground.{refusal, entriesOf, testsOf, Ended, ground, listOf, instancesOf}
+use Rattle.meaning.specs.Cases.{table, Right}
+use Rattle.meaning.proofs.Cases as by-computation
+use Rattle.meaning.proofs.Group as groups
+use Rattle.meaning.proofs.Local as local
+use Rattle.meaning.proofs.Reading as read
+use Rattle.meaning.proofs.Unique as unique
+use Rattle.meaning.proofs.Ground as grounds
+
+-- Demand 1: "A refusal returns its number and place, 0 entries and 0 tests. No list cell changes."
+pub refused-keeps : (bytes : List ℕ) (number place : ℕ) → reading bytes ≡ refused number place → (allowance : ℕ) (held : List ℕ)
+    → ground bytes allowance held ≡ record { answer = refusal number place; cells = held }
+refused-keeps = grounds.ground-refused
+
+-- What is asked of the list leaves one list at most.
+pub one-listing : (J : Job) (L M : List Instance) → Listing J L → Listing J M → L ≡ M
+one-listing = unique.one-listing
+
+-- The group that the walk computes is "all items at or after it joined to it by shared variables through items at or after it, in either direction".
+pub group-is : (R : Rule) (p j : ℕ) → p < size R → (List·Memᴰ j (group R p) → Group R p j) × (Group R p j → List·Memᴰ j (group R p))
+group-is R p j h = (groups.group-is R p j h, groups.is-group R p j h)
+
+-- A test computes what the document says of it: "each negated literal is not" a row of its predicate, "and each less-than holds as numbers".
+pub negated-is : (J : Job) (p : ℕ) (ns : List ℕ) → T (passes J (negated p) ns) ↔ (List·Memᴰ ns (rowsOf J p) → ⊥)
+negated-is = local.negated-is
+
+pub less-than-is : (J : Job) (a b : ℕ) → T (passes J lessThan (a ∷ b ∷ [])) ↔ (a < b)
+less-than-is = local.less-than-is
+
+-- From here on J is what the bytes were accepted as: any accepted job.
+module _ (bytes : List ℕ) (J : Job) (is : reading bytes ≡ accepted J) where
+  -- Demand 1: an accepted job has declared predicates, as many terms as their arities, variables 0 to 15, and bound variables as 9 and 10 ask.
+  pub accepted-safe : Sound J
+  accepted-safe = read.accepted-sound bytes J is
+
+  -- Demand 2: there is a list that the document asks for,
+  pub listing-exists : (L : List Instance) × Listing J L
+  listing-exists = grounds.listing-exists J bytes is
+
+  -- and the entries of a complete answer, without their first cells, are that list: exactly the relevant instances, with their first supports, in order.
+  pub complete-listing : (allowance : ℕ) (held : List ℕ) → let g = ground bytes allowance held in Ended complete (g .answer) → Listing J (instancesOf (J .rule) g)
+  complete-listing = grounds.complete-listing J bytes is
+
+  -- A stopped or full list is a beginning of the complete one, entry by entry and with their first cells,
+  pub beginning : (allowance allowance′ : ℕ) (held held′ : List ℕ) → let g = ground bytes allowance held in let g′ = ground bytes allowance′ held′ in
+      Ended complete (g′ .answer) → Begins (listOf (J .rule) g) (listOf (J .rule) g′)
+  beginning = grounds.beginning J bytes is
+
+  -- and all complete answers are one, whatever the allowance and the lent cells.
+  pub complete-one : (allowance allowance′ : ℕ) (held held′ : List ℕ) → let g = ground bytes allowance held in let g′ = ground bytes allowance′ held′ in
+      Ended complete (g .answer) → Ended complete (g′ .answer) → (g .answer ≡ g′ .answer) × (listOf (J .rule) g ≡ listOf (J .rule) g′)
+  complete-one = grounds.complete-one J bytes is
+
+  -- Demand 3: a larger allowance only lengthens the list,
+  pub longer : (allowance more : ℕ) (held : List ℕ) → Begins (listOf (J .rule) (ground bytes allowance held)) (listOf (J .rule) (ground bytes (allowance + more) held))
+  longer = grounds.longer J bytes is
+
+  -- and never changes a complete or full answer, nor any cell.
+  pub settled : (allowance more : ℕ) (held : List ℕ) → (Ended stopped (ground bytes allowance held .answer) → ⊥) → ground bytes (allowance + more) held ≡ ground bytes allowance held
+  settled = grounds.settled J bytes is
+
+  -- Tests are at most the plain count and the allowance; "stopped: a test was due and the allowance .. was used up".
+  pub tests-bound : (allowance : ℕ) (held : List ℕ) → let r = ground bytes allowance held .answer in
+      (testsOf r ≤ plainCount J) × (testsOf r ≤ allowance) × (Ended stopped r → (testsOf r ≡ allowance) × (allowance < plainCount J))
+  tests-bound = grounds.tests-bound J bytes is
+
+  -- Where the lent cells hold every instance, the answer is complete at every allowance that reaches the plain count.
+  pub plain-suffices : (L : List Instance) → Listing J L → (allowance : ℕ) (held : List ℕ) → plainCount J ≤ allowance → length L * entrySize (J .rule) ≤ length held
+      → Ended complete (ground bytes allowance held .answer)
+  plain-suffices = grounds.plain-suffices J bytes is
+
+  -- "full: a new instance was found and fewer cells than one entry were free"
+  pub full-at : (L : List Instance) → Listing J L → (allowance : ℕ) (held : List ℕ) → let r = ground bytes allowance held .answer in
+      Ended full r → (entriesOf r < length L) × (length held - entriesOf r * entrySize (J .rule) < entrySize (J .rule))
+  full-at = grounds.full-at J bytes is
+
+  -- "Entries fill the lent cells from the start; later cells keep what they held.": the list takes its entries' sizes, and the cells are as many as were lent.
+  pub cells-after : (allowance : ℕ) (held : List ℕ) → let g = ground bytes allowance held in let n = entriesOf (g .answer) * entrySize (J .rule) in
+      (take n (g .cells) ≡ flatten (listOf (J .rule) g)) × (drop n (g .cells) ≡ drop n held) × (length (g .cells) ≡ length held)
+  cells-after = grounds.cells-after J bytes is
+
+-- "The P cases form a single table over the definitions, covered by a single statement"
+pub cases-hold : Right table
+cases-hold = by-computation.cases

@@ -1,0 +1,171 @@
+-- Document 01, "Cases": the cases marked P, over the bytes, and six jobs that tell wrong walks apart. One table, one statement.
+use mathlib.Core.Path.{_≡_}
+use mathlib.Core.List.{List, [], _∷_, _++_, map, flatten}
+use mathlib.Core.Option.{Option, none, some}
+use Prim.Native.Nat.{ℕ, _-_}
+use lib.ListN.{length, replicate}
+use Rattle.meaning.specs.Reading.{Reading, refused, accepted, reading}
+use Rattle.meaning.specs.List.{Ending, complete, stopped, full}
+use Rattle.meaning.specs.Plain.{plainCount}
+use Rattle.meaning.specs.Ground.{Answer, refusal, ran, ground}
+
+-- the answer, the lent cells after it, and the plain count of an accepted job
+pub record Outcome : Type 0 where
+  pub answer : Answer
+  pub cells : List ℕ
+  pub plain : Option ℕ
+
+-- so many cells are lent, and each holds 7
+pub record Case : Type 0 where
+  pub bytes : List ℕ
+  pub allowance : ℕ
+  pub lent : ℕ
+  pub expected : Outcome
+
+abbrev plainOf : Reading → Option ℕ
+plainOf (refused number place) = none
+plainOf (accepted J) = some (plainCount J)
+
+abbrev pub outcome : Case → Outcome
+outcome c =
+    let g = ground (c .bytes) (c .allowance) (replicate (c .lent) 7) in
+    record { answer = g .answer; cells = g .cells; plain = plainOf (reading (c .bytes)) }
+
+abbrev pub Right : List Case → Type 0
+Right cs = map outcome cs ≡ map (λ (c : Case). c .expected) cs
+
+-- An accepted job's case: its entries, cell by cell, its ending, its tests and its plain count. The cells after the entries keep their 7.
+abbrev case : List ℕ → ℕ → ℕ → List (List ℕ) → Ending → ℕ → ℕ → Case
+case bytes allowance lent entries ending tests plain = record {
+  bytes = bytes;
+  allowance = allowance;
+  lent = lent;
+  expected = record {
+    answer = ran ending (length entries) tests;
+    cells = flatten entries ++ replicate (lent - length (flatten entries)) 7;
+    plain = some plain;
+  };
+}
+
+-- as the lister runs: "with allowance 1,000,000 and 4,096 cells"
+abbrev list : List ℕ → List (List ℕ) → Ending → ℕ → ℕ → Case
+list bytes = case bytes 1000000 4096
+
+abbrev refusedCase : List ℕ → ℕ → ℕ → Case
+refusedCase bytes number place = record {
+  bytes = bytes;
+  allowance = 1000000;
+  lent = 4096;
+  expected = record { answer = refusal number place; cells = replicate 4096 7; plain = none };
+}
+
+-- The bytes of a field, of its terms and cells, where each number is below 256.
+abbrev field : ℕ → List (List ℕ) → List ℕ
+field tag parts = tag ∷ 0 ∷ length (flatten parts) ∷ flatten parts
+
+abbrev n : ℕ → List ℕ
+n m = 0 ∷ 0 ∷ 0 ∷ 0 ∷ m ∷ []
+
+abbrev v : ℕ → List ℕ
+v m = 1 ∷ 0 ∷ 0 ∷ 0 ∷ m ∷ []
+
+abbrev cell : ℕ → List ℕ
+cell m = 0 ∷ 0 ∷ 0 ∷ m ∷ []
+
+-- a predicate that is solved, and one that is not, by its arity
+abbrev solved : ℕ → List ℕ
+solved arity = field 1 ((arity ∷ 1 ∷ []) ∷ [])
+
+abbrev unsolved : ℕ → List ℕ
+unsolved arity = field 1 ((arity ∷ 0 ∷ []) ∷ [])
+
+abbrev row : ℕ → List ℕ → List ℕ
+row p cells = field 2 ((p ∷ []) ∷ map cell cells)
+
+abbrev head : ℕ → List (List ℕ) → List ℕ
+head p terms = field 3 ((p ∷ []) ∷ terms)
+
+abbrev literal : ℕ → List (List ℕ) → List ℕ
+literal p terms = field 4 ((0 ∷ p ∷ []) ∷ terms)
+
+-- the bytes of fields in a row
+abbrev job : List (List ℕ) → List ℕ
+job fields = flatten fields
+
+-- the rows of predicate p: (m), and (m, k)
+abbrev r : ℕ → ℕ → List ℕ
+r p m = row p (m ∷ [])
+
+abbrev rr : ℕ → ℕ → ℕ → List ℕ
+rr p m k = row p (m ∷ k ∷ [])
+
+-- literals and heads over predicate p: p(Vm), and p(Vm, Vk)
+abbrev l : ℕ → ℕ → List ℕ
+l p m = literal p (v m ∷ [])
+
+abbrev ll : ℕ → ℕ → ℕ → List ℕ
+ll p m k = literal p (v m ∷ v k ∷ [])
+
+abbrev h : ℕ → ℕ → List ℕ
+h p m = head p (v m ∷ [])
+
+abbrev hh : ℕ → ℕ → ℕ → List ℕ
+hh p m k = head p (v m ∷ v k ∷ [])
+
+-- "Its 91 bytes:"
+abbrev job2 : List ℕ
+job2 =
+    1 ∷ 0 ∷ 2 ∷ 2 ∷ 1 ∷ 1 ∷ 0 ∷ 2 ∷ 2 ∷ 0 ∷ 2 ∷ 0 ∷ 9 ∷ 0 ∷ 0 ∷ 0 ∷ 0 ∷ 1 ∷ 0 ∷ 0 ∷ 0 ∷ 9 ∷ 2 ∷ 0 ∷ 9 ∷ 0 ∷ 0 ∷ 0 ∷ 0 ∷ 2 ∷ 0 ∷ 0 ∷ 0 ∷ 10
+    ∷ 3 ∷ 0 ∷ 11 ∷ 1 ∷ 1 ∷ 0 ∷ 0 ∷ 0 ∷ 0 ∷ 1 ∷ 0 ∷ 0 ∷ 0 ∷ 2 ∷ 4 ∷ 0 ∷ 12 ∷ 0 ∷ 0 ∷ 1 ∷ 0 ∷ 0 ∷ 0 ∷ 0 ∷ 1 ∷ 0 ∷ 0 ∷ 0 ∷ 1
+    ∷ 4 ∷ 0 ∷ 12 ∷ 0 ∷ 0 ∷ 1 ∷ 0 ∷ 0 ∷ 0 ∷ 2 ∷ 1 ∷ 0 ∷ 0 ∷ 0 ∷ 3 ∷ 5 ∷ 0 ∷ 10 ∷ 1 ∷ 0 ∷ 0 ∷ 0 ∷ 1 ∷ 1 ∷ 0 ∷ 0 ∷ 0 ∷ 3 ∷ []
+
+-- A is predicate 0, B 1, D 2, h 3
+abbrev job3 : List ℕ
+job3 = job (solved 1 ∷ solved 1 ∷ solved 2 ∷ unsolved 2 ∷ r 0 1 ∷ r 0 2 ∷ r 1 7 ∷ rr 2 1 31 ∷ rr 2 2 32 ∷ hh 3 1 2 ∷ l 0 0 ∷ l 1 1 ∷ ll 2 0 2 ∷ [])
+
+abbrev job4 : List (List ℕ) → List ℕ
+job4 heads = job (solved 1 ∷ solved 1 ∷ unsolved 1 ∷ r 0 1 ∷ r 0 2 ∷ r 1 5 ∷ r 1 6 ∷ r 1 7 ∷ flatten heads ∷ l 0 0 ∷ l 1 1 ∷ [])
+
+abbrev pub table : List Case
+table =
+    -- case 1
+    refusedCase [] 11 0
+    -- case 2
+    ∷ list job2 ((5 ∷ 1 ∷ 2 ∷ 0 ∷ 1 ∷ []) ∷ []) complete 10 10
+    -- case 3
+    ∷ list job3 ((3 ∷ 7 ∷ 31 ∷ 0 ∷ 0 ∷ 0 ∷ []) ∷ (8 ∷ 7 ∷ 32 ∷ 1 ∷ 0 ∷ 1 ∷ []) ∷ []) complete 8 8
+    -- case 4
+    ∷ list (job4 (h 2 0 ∷ [])) ((2 ∷ 1 ∷ 0 ∷ 0 ∷ []) ∷ (4 ∷ 2 ∷ 1 ∷ 0 ∷ []) ∷ []) complete 4 8
+    -- case 5: case 4 with no head
+    ∷ list (job4 []) ((2 ∷ 0 ∷ 0 ∷ []) ∷ []) complete 2 8
+    -- case 6: h(4), no body, allowance 0
+    ∷ case (job (unsolved 1 ∷ head 0 (n 4 ∷ []) ∷ [])) 0 4096 ((0 ∷ []) ∷ []) complete 0 0
+    -- case 7: V0 twice in one literal
+    ∷ list (job (solved 2 ∷ unsolved 1 ∷ rr 0 1 2 ∷ rr 0 3 3 ∷ h 1 0 ∷ ll 0 0 0 ∷ [])) ((2 ∷ 3 ∷ 1 ∷ []) ∷ []) complete 2 2
+    -- case 8: case 3 with allowance 7, and with 8
+    ∷ case job3 7 4096 ((3 ∷ 7 ∷ 31 ∷ 0 ∷ 0 ∷ 0 ∷ []) ∷ []) stopped 7 8
+    ∷ case job3 8 4096 ((3 ∷ 7 ∷ 31 ∷ 0 ∷ 0 ∷ 0 ∷ []) ∷ (8 ∷ 7 ∷ 32 ∷ 1 ∷ 0 ∷ 1 ∷ []) ∷ []) complete 8 8
+    -- case 9: case 4 with 7 cells
+    ∷ case (job4 (h 2 0 ∷ [])) 1000000 7 ((2 ∷ 1 ∷ 0 ∷ 0 ∷ []) ∷ []) full 4 8
+    -- case 10: no rows, allowance 0
+    ∷ case (job (solved 1 ∷ unsolved 1 ∷ h 1 0 ∷ l 0 0 ∷ [])) 0 4096 [] complete 0 0
+    -- case 11
+    ∷ list (job (solved 1 ∷ solved 1 ∷ solved 1 ∷ unsolved 2 ∷ r 0 1 ∷ r 0 2 ∷ r 1 5 ∷ r 1 6 ∷ r 2 2 ∷ hh 3 0 1 ∷ l 0 0 ∷ l 1 1 ∷ l 2 0 ∷ []))
+    ((6 ∷ 2 ∷ 5 ∷ 1 ∷ 0 ∷ 0 ∷ []) ∷ (8 ∷ 2 ∷ 6 ∷ 1 ∷ 1 ∷ 0 ∷ []) ∷ []) complete 8 10
+    -- a walk that does not clear the mark on entering makes 22 tests here
+    ∷ list (job (solved 1 ∷ solved 2 ∷ unsolved 2 ∷ r 0 0 ∷ r 0 1 ∷ rr 1 0 1 ∷ hh 2 1 2 ∷ l 0 1 ∷ l 0 2 ∷ l 0 0 ∷ ll 1 1 0 ∷ []))
+    ((6 ∷ 0 ∷ 0 ∷ 0 ∷ 0 ∷ 1 ∷ 0 ∷ []) ∷ (11 ∷ 0 ∷ 1 ∷ 0 ∷ 1 ∷ 1 ∷ 0 ∷ []) ∷ []) complete 17 22
+    -- one that takes an item that nothing fits for one that ran out later makes 6 here
+    ∷ list (job (solved 2 ∷ unsolved 0 ∷ rr 0 2 0 ∷ rr 0 2 1 ∷ head 1 [] ∷ ll 0 3 0 ∷ ll 0 1 1 ∷ ll 0 3 1 ∷ [])) [] complete 3 6
+    -- one that takes a clear mark for a set one makes 10 here
+    ∷ list (job (solved 1 ∷ solved 1 ∷ unsolved 1 ∷ r 0 1 ∷ r 0 2 ∷ r 1 0 ∷ h 2 2 ∷ l 0 2 ∷ l 0 1 ∷ l 1 1 ∷ [])) [] complete 5 10
+    -- one that takes a set mark for a clear one loses two entries here
+    ∷ list (job (solved 1 ∷ unsolved 2 ∷ r 0 0 ∷ r 0 2 ∷ hh 1 0 2 ∷ l 0 0 ∷ l 0 2 ∷ []))
+    ((2 ∷ 0 ∷ 0 ∷ 0 ∷ 0 ∷ []) ∷ (3 ∷ 0 ∷ 2 ∷ 0 ∷ 1 ∷ []) ∷ (5 ∷ 2 ∷ 0 ∷ 1 ∷ 0 ∷ []) ∷ (6 ∷ 2 ∷ 2 ∷ 1 ∷ 1 ∷ []) ∷ []) complete 6 6
+    -- one that takes the item's own variables for its group's loses the entry here
+    ∷ list (job (solved 2 ∷ unsolved 1 ∷ rr 0 1 2 ∷ rr 0 2 0 ∷ h 1 0 ∷ ll 0 3 2 ∷ ll 0 1 0 ∷ ll 0 0 2 ∷ []))
+    ((11 ∷ 2 ∷ 1 ∷ 0 ∷ 1 ∷ []) ∷ []) complete 14 14
+    -- one that follows the group only towards later items loses the entry here
+    ∷ list (job (solved 2 ∷ unsolved 2 ∷ rr 0 1 0 ∷ rr 0 2 2 ∷ hh 1 0 1 ∷ ll 0 2 3 ∷ ll 0 1 1 ∷ ll 0 0 3 ∷ ll 0 1 0 ∷ []))
+    ((14 ∷ 2 ∷ 2 ∷ 1 ∷ 1 ∷ 1 ∷ 1 ∷ []) ∷ []) complete 14 14
+    ∷ []

@@ -1,0 +1,2 @@
+-- How the code's records stand for the meaning.
+pub mod Rule
