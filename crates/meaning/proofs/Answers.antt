@@ -31,7 +31,7 @@ module _ (J : Job) where
   unfolding cells entrySize values
   length-cells e w = omega (arith, length-append (map (value J (rowAt (e .rows))) (relevant (J .rule))) (support (J .rule .body) (e .rows)), length-map (relevant (J .rule)) (value J (rowAt (e .rows))), length-support (J .rule .body) (e .rows) w)
 
-  length-entries : (es : List Entry) → ((e : Entry) → List·Memᴰ e es → length (e .rows) ≡ size (J .rule)) → length (flatten (map (cells J) es)) ≡ length es * entrySize (J .rule)
+  pub length-entries : (es : List Entry) → ((e : Entry) → List·Memᴰ e es → length (e .rows) ≡ size (J .rule)) → length (flatten (map (cells J) es)) ≡ length es * entrySize (J .rule)
   unfolding flatten
   length-entries [] w = omega arith
   length-entries (e ∷ es) w = omega (
