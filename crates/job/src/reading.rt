@@ -1,0 +1,84 @@
+// A job's bytes, field by field.
+ghost use mathlib.Core.Path.{_≡_};
+ghost use Rattle.meaning.specs.Reading.{reading};
+ghost use Rattle.job.specs.Answer.{madeOf, readingOf, Holds, Kept};
+use crate::bytes::two;
+use crate::fault::Fault;
+use crate::fault::Judged;
+use crate::fault::Verdict;
+use crate::grow::grow;
+use crate::judge::judge;
+use crate::last::last;
+use crate::progress::Progress;
+use crate::progress::nothing_yet;
+use rule::CELL_LIMIT;
+use rule::INDEX_LIMIT;
+use rule::JOB_LIMIT;
+use rule::PREDICATE_LIMIT;
+use rule::Rule;
+
+// The job, beside the rows' cells and their index: row n of the job has its cells at 4n to 4n + 3 of `cells`, and row k of predicate p is
+// row `index[ROW_LIMIT * p + k]` of the job. Of each predicate its arity and how many rows it has; how many rows there are.
+pub struct Made {
+    pub rule: Rule,
+    pub arities: [usize; PREDICATE_LIMIT],
+    pub rows: [usize; PREDICATE_LIMIT],
+    pub total: usize,
+}
+
+pub struct ReadJob {
+    pub verdict: Verdict,
+    pub made: Made,
+}
+
+fn made_of(p: Progress) -> Made
+    ensures { λ r. ⌜ r ≡ madeOf p ⌝ }
+{
+    let rule = p.rule;
+    let arities = p.arities;
+    let rows = p.rows;
+    Made {
+        rule,
+        arities,
+        rows,
+        total: p.total,
+    }
+}
+
+pub fn read_job(
+    bytes: &[u8],
+    cells: &mut [u32; CELL_LIMIT],
+    index: &mut [u16; INDEX_LIMIT],
+) -> ReadJob
+    ensures { λ r. ⌜ readingOf r (now (cells .exit)) (now (index .exit)) ≡ reading (now (bytes .entry)) ⌝ }
+    ensures { λ r. ⌜ Holds (now (bytes .entry)) r (now (cells .exit)) (now (index .exit)) ⌝ }
+    ensures { λ r. ⌜ (r .verdict ≡ Verdict.Accepted → Kept (r .made) (now (cells .exit)) (now (index .exit))) ⌝ }
+{
+    // Stored whole: what the arrays hold at last is fixed by the bytes alone, and the proof knows their lengths, which a reference does not tell.
+    *cells = [0; CELL_LIMIT];
+    *index = [0; INDEX_LIMIT];
+    let mut p = nothing_yet();
+    if JOB_LIMIT < bytes.len() {
+        return ReadJob {
+            verdict: Verdict::Refused(Fault::Long, 0),
+            made: made_of(p),
+        };
+    }
+    let mut at = 0usize;
+    while at < bytes.len() {
+        let judged = judge(bytes, at, p);
+        if let Judged::Faulty(fault) = judged {
+            return ReadJob {
+                verdict: Verdict::Refused(fault, at),
+                made: made_of(p),
+            };
+        }
+        let next = grow(bytes, at, p, cells, index);
+        p = next;
+        at = at + 3 + two(bytes, at + 1);
+    }
+    ReadJob {
+        verdict: last(bytes, p),
+        made: made_of(p),
+    }
+}

@@ -1,0 +1,2 @@
+-- How the code's frame stands for the meaning.
+pub mod Frame
