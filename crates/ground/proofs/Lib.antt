@@ -1,0 +1,2 @@
+-- What is read and what is walked are joined here.
+pub mod Joins

@@ -1,0 +1,3 @@
+-- How the answer and the list's shape stand for the meaning's.
+pub mod Answer
+pub mod Shape
