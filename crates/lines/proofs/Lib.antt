@@ -1,0 +1,4 @@
+-- Laws that the functions' proofs cite.
+pub mod Puts
+pub mod Texts
+pub mod Cases
