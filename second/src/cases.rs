@@ -1,0 +1,167 @@
+//! The document's cases 1 to 12.
+
+use crate::fields::{head, n, negated, positive, predicate, row, v};
+use crate::run::{Run, LISTER_CELLS};
+
+/// Every run that cases 1 to 12 tell of, in their order.
+pub fn runs() -> Vec<Run> {
+    let lister = [
+        case_1(),
+        case_2(),
+        case_3(),
+        case_4(),
+        case_5(),
+        case_6(),
+        case_7(),
+        case_10(),
+        case_11(),
+        case_12(),
+    ];
+    let mut runs: Vec<Run> = lister.into_iter().map(Run::of_lister).collect();
+    runs.push(with_allowance(case_6(), 0));
+    runs.push(with_allowance(case_3(), 7));
+    runs.push(with_allowance(case_3(), 8));
+    runs.push(case_9());
+    runs.push(with_allowance(case_10(), 0));
+    runs
+}
+
+pub fn with_allowance(job: Vec<u8>, allowance: u32) -> Run {
+    Run {
+        allowance,
+        cells: LISTER_CELLS,
+        job,
+    }
+}
+
+pub fn case_1() -> Vec<u8> {
+    Vec::new()
+}
+
+/// The bytes as the document gives them.
+pub fn case_2() -> Vec<u8> {
+    let fields: [&[u8]; 8] = [
+        b"\x01\x00\x02\x02\x01",
+        b"\x01\x00\x02\x02\x00",
+        b"\x02\x00\x09\x00\x00\x00\x00\x01\x00\x00\x00\x09",
+        b"\x02\x00\x09\x00\x00\x00\x00\x02\x00\x00\x00\x0A",
+        b"\x03\x00\x0B\x01\x01\x00\x00\x00\x00\x01\x00\x00\x00\x02",
+        b"\x04\x00\x0C\x00\x00\x01\x00\x00\x00\x00\x01\x00\x00\x00\x01",
+        b"\x04\x00\x0C\x00\x00\x01\x00\x00\x00\x02\x01\x00\x00\x00\x03",
+        b"\x05\x00\x0A\x01\x00\x00\x00\x01\x01\x00\x00\x00\x03",
+    ];
+    fields.concat()
+}
+
+pub fn case_3() -> Vec<u8> {
+    let (a, b, d, h) = (0, 1, 2, 3);
+    [
+        predicate(1, true),
+        predicate(1, true),
+        predicate(2, true),
+        predicate(2, false),
+        row(a, &[1]),
+        row(a, &[2]),
+        row(b, &[7]),
+        row(d, &[1, 31]),
+        row(d, &[2, 32]),
+        head(h, &[v(1), v(2)]),
+        positive(a, &[v(0)]),
+        positive(b, &[v(1)]),
+        positive(d, &[v(0), v(2)]),
+    ]
+    .concat()
+}
+
+pub fn case_4() -> Vec<u8> {
+    let h = 2;
+    case_4_with(&[head(h, &[v(0)])])
+}
+
+pub fn case_5() -> Vec<u8> {
+    case_4_with(&[])
+}
+
+fn case_4_with(heads: &[Vec<u8>]) -> Vec<u8> {
+    let (a, b) = (0, 1);
+    [
+        predicate(1, true),
+        predicate(1, true),
+        predicate(1, false),
+        row(a, &[1]),
+        row(a, &[2]),
+        row(b, &[5]),
+        row(b, &[6]),
+        row(b, &[7]),
+        heads.concat(),
+        positive(a, &[v(0)]),
+        positive(b, &[v(1)]),
+    ]
+    .concat()
+}
+
+pub fn case_6() -> Vec<u8> {
+    [predicate(1, false), head(0, &[n(4)])].concat()
+}
+
+pub fn case_7() -> Vec<u8> {
+    let (p, h) = (0, 1);
+    [
+        predicate(2, true),
+        predicate(1, false),
+        row(p, &[1, 2]),
+        row(p, &[3, 3]),
+        head(h, &[v(0)]),
+        positive(p, &[v(0), v(0)]),
+    ]
+    .concat()
+}
+
+pub fn case_9() -> Run {
+    Run {
+        cells: 7,
+        ..Run::of_lister(case_4())
+    }
+}
+
+pub fn case_10() -> Vec<u8> {
+    let (p, h) = (0, 1);
+    [
+        predicate(1, true),
+        predicate(1, false),
+        head(h, &[v(0)]),
+        positive(p, &[v(0)]),
+    ]
+    .concat()
+}
+
+pub fn case_11() -> Vec<u8> {
+    let (a, b, c, h) = (0, 1, 2, 3);
+    [
+        predicate(1, true),
+        predicate(1, true),
+        predicate(1, true),
+        predicate(2, false),
+        row(a, &[1]),
+        row(a, &[2]),
+        row(b, &[5]),
+        row(b, &[6]),
+        row(c, &[2]),
+        head(h, &[v(0), v(1)]),
+        positive(a, &[v(0)]),
+        positive(b, &[v(1)]),
+        positive(c, &[v(0)]),
+    ]
+    .concat()
+}
+
+pub fn case_12() -> Vec<u8> {
+    let (p, q) = (0, 1);
+    [
+        predicate(1, true),
+        predicate(1, true),
+        negated(p, &[v(0)]),
+        positive(q, &[v(0)]),
+    ]
+    .concat()
+}

@@ -1,0 +1,184 @@
+//! The document's cases 1 to 13 with the numbers it gives.
+
+use crate::cases::*;
+use crate::job::read;
+use crate::run::Run;
+use crate::{limits, meaning, plain, witnesses};
+
+fn listed(job: Vec<u8>) -> String {
+    answer(&Run::of_lister(job))
+}
+
+fn answer(run: &Run) -> String {
+    run.answer().0
+}
+
+fn plain_count(job: &[u8]) -> u128 {
+    plain::count(&read(job).expect("the case is accepted"))
+}
+
+#[test]
+fn case_1_empty_job() {
+    assert_eq!(listed(case_1()), "refused 11 0\n");
+}
+
+#[test]
+fn case_2_events() {
+    assert_eq!(case_2().len(), 91);
+    assert_eq!(listed(case_2()), "vars 0 2\n5 1 2 0 1\ncomplete 1 10\n");
+}
+
+#[test]
+fn case_3_group_in_either_direction() {
+    let expected = "vars 1 2\n3 7 31 0 0 0\n8 7 32 1 0 1\ncomplete 2 8\n";
+    assert_eq!(listed(case_3()), expected);
+    assert_eq!(plain_count(&case_3()), 8);
+}
+
+#[test]
+fn case_4_one_entry_for_each_instance() {
+    let expected = "vars 0\n2 1 0 0\n4 2 1 0\ncomplete 2 4\n";
+    assert_eq!(listed(case_4()), expected);
+    assert_eq!(plain_count(&case_4()), 8);
+}
+
+#[test]
+fn case_5_constraint() {
+    assert_eq!(listed(case_5()), "vars\n2 0 0\ncomplete 1 2\n");
+}
+
+#[test]
+fn case_6_no_body() {
+    let run = with_allowance(case_6(), 0);
+    assert_eq!(answer(&run), "vars\n0\ncomplete 1 0\n");
+}
+
+#[test]
+fn case_7_repeated_variable() {
+    assert_eq!(listed(case_7()), "vars 0\n2 3 1\ncomplete 1 2\n");
+}
+
+#[test]
+fn case_8_allowance_used_up() {
+    let stopped = "vars 1 2\n3 7 31 0 0 0\nstopped 1 7\n";
+    assert_eq!(answer(&with_allowance(case_3(), 7)), stopped);
+    assert_eq!(answer(&with_allowance(case_3(), 8)), listed(case_3()));
+}
+
+#[test]
+fn case_9_too_few_cells() {
+    assert_eq!(answer(&case_9()), "vars 0\n2 1 0 0\nfull 1 4\n");
+}
+
+#[test]
+fn case_10_no_rows() {
+    let run = with_allowance(case_10(), 0);
+    assert_eq!(answer(&run), "vars 0\ncomplete 0 0\n");
+}
+
+#[test]
+fn case_11_late_join() {
+    let expected = "vars 0 1\n6 2 5 1 0 0\n8 2 6 1 1 0\ncomplete 2 8\n";
+    assert_eq!(listed(case_11()), expected);
+    assert_eq!(plain_count(&case_11()), 10);
+}
+
+#[test]
+fn case_12_negated_before_bound() {
+    assert_eq!(listed(case_12()), "refused 9 10\n");
+}
+
+#[test]
+fn case_13_inside_every_limit() {
+    for job in limits::inside() {
+        assert!(read(&job).is_ok());
+    }
+}
+
+#[test]
+fn case_13_one_over_every_limit() {
+    let refusals = [
+        (5, 16 * 5),
+        (5, 5 + 1_024 * 8),
+        (5, 5 + 4 * 9),
+        (5, 5 + 8 * 10),
+        (5, 5 + 10 + 7 * 13),
+        (8, 5),
+        (8, 0),
+    ];
+    assert_refused(limits::outside(), &refusals);
+}
+
+#[test]
+fn case_13_around_the_longest_length() {
+    assert_refused(limits::lengths(), &[(3, 5), (3, 5), (1, 0)]);
+}
+
+#[test]
+fn plain_counts_that_the_document_does_not_give() {
+    let jobs = [
+        (case_2(), 10),
+        (case_5(), 8),
+        (case_6(), 0),
+        (case_7(), 2),
+        (case_10(), 0),
+    ];
+    for (job, count) in jobs {
+        assert_eq!(plain_count(&job), count);
+    }
+}
+
+#[test]
+fn witnesses_of_wrong_walks() {
+    let jobs = [
+        (witnesses::mark_on_entering(), "complete 2 17", 22),
+        (witnesses::nothing_fits(), "complete 0 3", 6),
+        (witnesses::clear_mark(), "complete 0 5", 10),
+        (witnesses::set_mark(), "complete 4 6", 6),
+        (witnesses::own_variables(), "complete 1 14", 14),
+        (witnesses::forward_group(), "complete 1 14", 14),
+    ];
+    for (job, ending, count) in jobs {
+        assert_eq!(plain_count(&job), count);
+        assert_eq!(listed(job).lines().last(), Some(ending));
+    }
+}
+
+fn assert_refused(jobs: Vec<Vec<u8>>, refusals: &[(u32, usize)]) {
+    assert_eq!(jobs.len(), refusals.len());
+    for (job, (number, place)) in jobs.into_iter().zip(refusals) {
+        assert_eq!(listed(job), format!("refused {number} {place}\n"));
+    }
+}
+
+#[test]
+fn accepted_cases_have_the_meaning_s_list() {
+    let jobs = [
+        case_2(),
+        case_3(),
+        case_4(),
+        case_5(),
+        case_6(),
+        case_7(),
+        case_10(),
+        case_11(),
+    ];
+    for bytes in jobs {
+        let job = read(&bytes).expect("the case is accepted");
+        let list = meaning::list(&job).expect("the case is small");
+        let lines: Vec<String> = list.iter().map(cells).collect();
+        let answer = listed(bytes);
+        let entries: Vec<&str> = answer.lines().collect();
+        let entries = &entries[1..entries.len() - 1];
+        assert_eq!(entries.len(), lines.len());
+        for (entry, line) in entries.iter().zip(lines) {
+            assert_eq!(entry.split(' ').skip(1).collect::<Vec<_>>().join(" "), line);
+        }
+    }
+}
+
+fn cells(instance: &meaning::Instance) -> String {
+    let values = instance.values.iter().map(u32::to_string);
+    let support = instance.first_support.iter().map(usize::to_string);
+    values.chain(support).collect::<Vec<_>>().join(" ")
+}
