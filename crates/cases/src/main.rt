@@ -11,11 +11,13 @@ use crate::record::Head;
 use crate::record::Record;
 use crate::record::read_head;
 use libc::STDOUT_FILENO;
+use rule::JOB_LIMIT;
 
-// The longest list that is lent, and the longest job of the file: one byte more than a job may have.
+// The cells of the longest list that is lent.
 const LIST_ROOM: usize = 4096;
 
-const JOB_ROOM: usize = 32769;
+// The bytes of the longest job of the file: one more than a job may have.
+const JOB_ROOM: usize = JOB_LIMIT + 1;
 
 fn at_most(n: usize, most: usize) -> usize
     ensures { λ r. ⌜ r ≤ most ⌝ }

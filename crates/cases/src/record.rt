@@ -1,4 +1,7 @@
 // The heads of the packed file's records.
+ghost use mathlib.Core.Path.{_≡_};
+ghost use Prim.Native.Nat.{_+_, _*_};
+
 const HEAD_SIZE: usize = 16;
 
 pub struct Head {
@@ -12,7 +15,10 @@ pub enum Record {
     End,
 }
 
-fn number(a: u8, b: u8, c: u8, d: u8) -> u32 {
+// Big-endian.
+fn number(a: u8, b: u8, c: u8, d: u8) -> u32
+    ensures { λ r. ⌜ r ≡ a * 16777216 + b * 65536 + c * 256 + d ⌝ }
+{
     a as u32 * 16777216 + b as u32 * 65536 + c as u32 * 256 + d as u32
 }
 

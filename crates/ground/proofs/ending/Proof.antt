@@ -6,27 +6,21 @@ use Rattle.ground.proofs.ending.Tie as tie
 use Rattle.ground.proofs.ending.Reads as reads
 use Rattle.ground.proofs.ending.Lts as lts
 
--- src/lib.rt:27:25
 enum-known-ended : tie.Need-enum-known-ended
 enum-known-ended c = search needs
 
--- src/lib.rt:28:24
 enum-known-ended-2 : tie.Need-enum-known-ended-2
 enum-known-ended-2 c = search needs
 
--- src/lib.rt:29:21
 enum-known-ended-3 : tie.Need-enum-known-ended-3
 enum-known-ended-3 c = search needs
 
--- src/lib.rt:23:1
 returns : tie.Need-returns
 returns c = ap endedOf (sym (c .before .ended .given .1))
 
--- src/lib.rt:23:1
 returns-2 : tie.Need-returns-2
 returns-2 c = ap endedOf (sym (c .before .ended2 .given .1))
 
--- src/lib.rt:23:1
 returns-3 : tie.Need-returns-3
 returns-3 c = ap endedOf (sym (c .before .ended3 .given .1))
 

@@ -11,19 +11,15 @@ use Rattle.job.proofs.reading.read_job.Reads as read-job-reads
 use Rattle.plan.proofs.tables.plan_of.Reads as plan-of-reads
 use Rattle.walk.proofs.run.run.Reads as run-reads
 
--- src/lib.rt:38:9
 read-job-requires : tie.Need-read-job-requires
 read-job-requires c κs = search needs
 
--- src/lib.rt:40:29
 enum-known-verdict : tie.Need-enum-known-verdict
 enum-known-verdict c = search needs
 
--- src/lib.rt:41:32
 number-requires : tie.Need-number-requires
 number-requires c κs = search needs
 
--- src/lib.rt:41:9
 returns : tie.Need-returns
 returns c =
     refused-answer _ (c .before .before .before .before .read-job .result) _ _ (c .before .before .before .before .read-job .ensures .0) _ _ _ _ _ (c .before .before .verdict .given .1) (c .number .ensures)
@@ -31,34 +27,27 @@ returns c =
 enum-told : tie.Need-enum-told
 enum-told c = search needs
 
--- src/lib.rt:46:9
 plan-of-requires : tie.Need-plan-of-requires
 plan-of-requires c κs =
     numbered _ (c .before .before .before .before .before .read-job .result) _ _ (c .before .before .before .before .before .read-job .ensures .0) (c .before .before .before .enum-told .given .1)
 
--- src/lib.rt:47:34
 slice-aggregate-run : tie.Need-slice-aggregate-run
 slice-aggregate-run c =
     sym (c .before .before .before .before .before .before .before .read-job .ensures .1 .1 (c .before .before .before .before .before .enum-told .given .1) .index-length)
 
--- src/lib.rt:47:46
 slice-aggregate-run-2 : tie.Need-slice-aggregate-run-2
 slice-aggregate-run-2 c =
     sym (c .before .before .before .before .before .before .before .before .read-job .ensures .1 .1 (c .before .before .before .before .before .before .enum-told .given .1) .cells-length)
 
--- src/lib.rt:47:12
 run-requires : tie.Need-run-requires
 run-requires c κs = search needs
 
--- src/lib.rt:47:5
 ending-requires : tie.Need-ending-requires
 ending-requires c κs = search needs
 
--- src/lib.rt:33:1
 same-length : tie.Need-same-length
 same-length c = search needs
 
--- src/lib.rt:33:1
 returns-2 : tie.Need-returns-2
 returns-2 c =
     accepted-answer _ (c .before .before .before .before .before .before .before .before .before .before .before .before .before .read-job .result) _ _ (c .before .before .before .before .before .before .before .before .before .before .before .before .before .read-job .ensures .0) (c .before .before .before .before .before .before .before .before .before .before .before .enum-told .given .1) _ _ _ (c .before .before .before .run .result) (c .ending .result) (c .before .before .before .run .ensures) (c .ending .ensures)

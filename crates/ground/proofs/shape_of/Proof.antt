@@ -7,26 +7,21 @@ use Rattle.ground.proofs.shape_of.Lts as lts
 use Rattle.job.proofs.reading.read_job.Reads as read-job-reads
 use Rattle.plan.proofs.tables.plan_of.Reads as plan-of-reads
 
--- src/lib.rt:66:9
 read-job-requires : tie.Need-read-job-requires
 read-job-requires c κs = search needs
 
--- src/lib.rt:70:23
 enum-told : tie.Need-enum-told
 enum-told c = search needs
 
--- src/lib.rt:69:9
 returns : tie.Need-returns
 returns c = refused-shape _ (c .before .before .read-job .result) _ _ (c .before .before .read-job .ensures .0) _ _ (c .enum-told .given .1)
 
 enum-told-2 : tie.Need-enum-told-2
 enum-told-2 c = search needs
 
--- src/lib.rt:76:9
 plan-of-requires : tie.Need-plan-of-requires
 plan-of-requires c κs = numbered _ (c .before .before .before .read-job .result) _ _ (c .before .before .before .read-job .ensures .0) (c .before .enum-told2 .given .1)
 
--- src/lib.rt:61:1
 returns-2 : tie.Need-returns-2
 returns-2 c =
     accepted-shape _ (c .before .before .before .before .before .read-job .result) _ _ (c .before .before .before .before .before .read-job .ensures .0) (c .before .before .before .enum-told2 .given .1) _ (c .before .plan-of .ensures)

@@ -1,140 +1,81 @@
+use Prim.Native.Nat.{ℕ, _<_}
 use native.Mathlib.Omega.{arith}
 use borrow.Author.Needs.{needs}
-use Rattle.lines.proofs.Texts.{put-digit, put-digits}
-use Prim.Native.Nat.{ℕ, _<_}
 use borrow.Fn.Kinds.{In}
 use borrow.Fn.PlainCycle.{Measures, is, falls, and}
+use Rattle.lines.proofs.Texts.{put-digit, put-digits}
 use Rattle.lines.proofs.put.put_number.Reads as put-number
-use Rattle.lines.proofs.put.put_number.Kinds as put-number-kinds
-use Rattle.lines.proofs.put.+put_number.Lts-put_number as put-number-lts
-use Rattle.lines.proofs.put.digit.Reads as digit-reads
-use Rattle.lines.proofs.put.put.Reads as put-reads
+use Rattle.lines.proofs.put.put_number.Kinds as kinds
+use Rattle.lines.proofs.put.+put_number.Lts-put_number as lts
+use Rattle.lines.proofs.put.digit.Reads as digit
+use Rattle.lines.proofs.put.put.Reads as put
 use Rattle.lines.proofs.put.+put_number.{statement}
 use Rattle.lines.proofs.put.+put_number.Tie.{close}
 
-abbrev μ-put-number : Measures 1 put-number-kinds.ps ℕ
-μ-put-number κs a = a .1 .1 .0
+-- the number falls
+abbrev μ : Measures 1 kinds.ps ℕ
+μ κs a = a .1 .1 .0
 
-abbrev put-number-at : ℕ → In 1 put-number-kinds.ps
-put-number-at t =
-    and 1 put-number-kinds.ps (is 1 put-number-kinds.ps μ-put-number t) put-number.Pre
+module _ (t : ℕ) where
+  -- what it is given at the measure t
+  abbrev given : In 1 kinds.ps
+  given = and 1 kinds.ps (is 1 kinds.ps μ t) put-number.Pre
 
-abbrev put-number-below : ℕ → In 1 put-number-kinds.ps
-put-number-below t =
-    and 1 put-number-kinds.ps (falls 1 put-number-kinds.ps _<_ μ-put-number t) put-number.Pre
+  -- what its calls ask and learn; the one of itself stands below t
+  abbrev claims : lts.Claims
+  claims = (
+    digit.Asked,
+    digit.Learnt,
+    put.Asked,
+    put.Learnt,
+    and 1 kinds.ps (falls 1 kinds.ps _<_ μ t) put-number.Pre,
+    put-number.Post,
+  )
 
-put-number-digit-requires : (t : ℕ) → put-number-lts.Need-digit-requires (
-  digit-reads.Asked,
-  digit-reads.Learnt,
-  put-reads.Asked,
-  put-reads.Learnt,
-  put-number-below t,
-  put-number.Post,
-) (put-number-at t) put-number.Post
-put-number-digit-requires t c κs = search needs
+  digit-requires : lts.Need-digit-requires claims given put-number.Post
+  digit-requires c κs = search needs
 
-put-number-put-requires : (t : ℕ) → put-number-lts.Need-put-requires (
-  digit-reads.Asked,
-  digit-reads.Learnt,
-  put-reads.Asked,
-  put-reads.Learnt,
-  put-number-below t,
-  put-number.Post,
-) (put-number-at t) put-number.Post
-put-number-put-requires t c κs = search needs
+  put-requires : lts.Need-put-requires claims given put-number.Post
+  put-requires c κs = search needs
 
-put-number-same-length : (t : ℕ) → put-number-lts.Need-same-length (
-  digit-reads.Asked,
-  digit-reads.Learnt,
-  put-reads.Asked,
-  put-reads.Learnt,
-  put-number-below t,
-  put-number.Post,
-) (put-number-at t) put-number.Post
-put-number-same-length t c = search needs
+  same-length : lts.Need-same-length claims given put-number.Post
+  same-length c = search needs
 
-put-number-returns : (t : ℕ) → put-number-lts.Need-returns (
-  digit-reads.Asked,
-  digit-reads.Learnt,
-  put-reads.Asked,
-  put-reads.Learnt,
-  put-number-below t,
-  put-number.Post,
-) (put-number-at t) put-number.Post
-put-number-returns t c = put-digit (omega arith) (c .before .before .before .digit .ensures) (c .before .before .put .ensures)
+  returns : lts.Need-returns claims given put-number.Post
+  returns c = put-digit (omega arith) (c .before .before .before .digit .ensures) (c .before .before .put .ensures)
 
-put-number-put-number-requires : (t : ℕ) → put-number-lts.Need-put-number-requires (
-  digit-reads.Asked,
-  digit-reads.Learnt,
-  put-reads.Asked,
-  put-reads.Learnt,
-  put-number-below t,
-  put-number.Post,
-) (put-number-at t) put-number.Post
-put-number-put-number-requires t c κs = search needs
+  put-number-requires : lts.Need-put-number-requires claims given put-number.Post
+  put-number-requires c κs = search needs
 
-put-number-digit-requires-2 : (t : ℕ) → put-number-lts.Need-digit-requires-2 (
-  digit-reads.Asked,
-  digit-reads.Learnt,
-  put-reads.Asked,
-  put-reads.Learnt,
-  put-number-below t,
-  put-number.Post,
-) (put-number-at t) put-number.Post
-put-number-digit-requires-2 t c κs = search needs
+  digit-requires-2 : lts.Need-digit-requires-2 claims given put-number.Post
+  digit-requires-2 c κs = search needs
 
-put-number-put-requires-2 : (t : ℕ) → put-number-lts.Need-put-requires-2 (
-  digit-reads.Asked,
-  digit-reads.Learnt,
-  put-reads.Asked,
-  put-reads.Learnt,
-  put-number-below t,
-  put-number.Post,
-) (put-number-at t) put-number.Post
-put-number-put-requires-2 t c κs = search needs
+  put-requires-2 : lts.Need-put-requires-2 claims given put-number.Post
+  put-requires-2 c κs = search needs
 
-put-number-same-length-2 : (t : ℕ) → put-number-lts.Need-same-length-2 (
-  digit-reads.Asked,
-  digit-reads.Learnt,
-  put-reads.Asked,
-  put-reads.Learnt,
-  put-number-below t,
-  put-number.Post,
-) (put-number-at t) put-number.Post
-put-number-same-length-2 t c = search needs
+  same-length-2 : lts.Need-same-length-2 claims given put-number.Post
+  same-length-2 c = search needs
 
-put-number-returns-2 : (t : ℕ) → put-number-lts.Need-returns-2 (
-  digit-reads.Asked,
-  digit-reads.Learnt,
-  put-reads.Asked,
-  put-reads.Learnt,
-  put-number-below t,
-  put-number.Post,
-) (put-number-at t) put-number.Post
-put-number-returns-2 t c =
-    put-digits
-    (omega arith)
-    (c .before .before .before .digit2 .ensures)
-    (c .before .before .before .before .before .before .before .put-number .ensures)
-    (c .before .before .put2 .ensures)
+  returns-2 : lts.Need-returns-2 claims given put-number.Post
+  returns-2 c =
+      put-digits
+      (omega arith)
+      (c .before .before .before .digit2 .ensures)
+      (c .before .before .before .before .before .before .before .put-number .ensures)
+      (c .before .before .put2 .ensures)
 
 pub +put-number-spec : {M : Type 1} → statement M
-+put-number-spec = close μ-put-number λ t. put-number-lts.spec (
-  digit-reads.Asked,
-  digit-reads.Learnt,
-  put-reads.Asked,
-  put-reads.Learnt,
-  put-number-below t,
-  put-number.Post,
-)
-    (put-number-at t)
++put-number-spec = close μ λ t.
+    lts.spec
+    (claims t)
+    (given t)
     put-number.Post
-    (put-number-digit-requires t)
-    (put-number-put-requires t)
-    (put-number-same-length t)
-    (put-number-returns t)
-    (put-number-put-number-requires t)
-    (put-number-digit-requires-2 t)
-    (put-number-put-requires-2 t)
-    (put-number-same-length-2 t)
-    (put-number-returns-2 t)
+    (digit-requires t)
+    (put-requires t)
+    (same-length t)
+    (returns t)
+    (put-number-requires t)
+    (digit-requires-2 t)
+    (put-requires-2 t)
+    (same-length-2 t)
+    (returns-2 t)
