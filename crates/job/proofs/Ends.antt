@@ -192,6 +192,7 @@ well-yet = record {
   heads-length = refl;
   items = omega arith;
   items-length = refl;
+  rows-length = refl;
   total = omega arith;
   arity = λ q. rw (zeros predicateLimit q) (omega arith);
   sums = refl;

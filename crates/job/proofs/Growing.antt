@@ -45,7 +45,6 @@ pub record Sizes (p : Progress) : Type 0 where
   pub heads : length (p .rule .heads) ≡ headLimit
   pub solved : length (p .rule .solved) ≡ predicateLimit
   pub arities : length (p .arities) ≡ predicateLimit
-  pub rows : length (p .rows) ≡ predicateLimit
 
 abbrev readWith : ℕ → List ℕ → List ℕ → List (List (List ℕ)) → List Bool → List Head → List Item → Read
 readWith group places arities rows solved heads body =
@@ -77,7 +76,7 @@ module _ (s : List ℕ) (at group : ℕ) (p : Progress) (z : Sizes p) (w : Well 
   rows-old i e = getD-set-other (p .rows) n₁ i 0 0 e
 
   rows-new : getD (new .rows) n₁ 0 ≡ 0
-  rows-new = getD-set-same (p .rows) n₁ 0 0 (omega (arith, z .rows))
+  rows-new = getD-set-same (p .rows) n₁ 0 0 (omega (arith, w .rows-length))
 
   arities-grow : aritiesOf (new .rule) (new .arities) ≡ aritiesOf (p .rule) (p .arities) ++ (byteAt s (at + 3) ∷ [])
   unfolding aritiesOf
@@ -112,6 +111,7 @@ module _ (s : List ℕ) (at group : ℕ) (p : Progress) (z : Sizes p) (w : Well 
         heads-length = w .heads-length;
         items = w .items;
         items-length = w .items-length;
+        rows-length = length-set (p .rows) n₁ 0 ∙ w .rows-length;
         total = w .total;
         arity = λ q. go q (ℕ-discrete q n₁);
         sums = sum-grow n₁ _ (λ (q : ℕ). getD (p .rows) q 0) (λ i l. rows-old i (λ e. omega arith)) rows-new ∙ w .sums;
@@ -170,7 +170,7 @@ module _ (cells index : List ℕ) (p r n a : ℕ) (f : ℕ → ℕ) where
       let e : getD (set index (rowLimit * p + r) n) (rowLimit * p + r) 0 ≡ n = getD-set-same index (rowLimit * p + r) n 0 hi in
       tab-ext a _ _ (λ j l. rw e (sym (getD-puts-in cells (arityLimit * n) a j f 0 l hc)))
 
-module _ (s : List ℕ) (at group : ℕ) (p : Progress) (z : Sizes p) (w : Well p) (cells index : List ℕ) (f : Filled p cells index) (r : RowReady s at p)
+module _ (s : List ℕ) (at group : ℕ) (p : Progress) (w : Well p) (cells index : List ℕ) (f : Filled p cells index) (r : RowReady s at p)
     (d : byteAt s (at + 3) < p .rule .predicates) where
   abbrev q₂ : ℕ
   q₂ = byteAt s (at + 3)
@@ -188,7 +188,7 @@ module _ (s : List ℕ) (at group : ℕ) (p : Progress) (z : Sizes p) (w : Well 
   row-other i e = getD-set-other (p .rows) q₂ i (k₂ + 1) 0 e
 
   row-same : getD rows₂ q₂ 0 ≡ k₂ + 1
-  row-same = getD-set-same (p .rows) q₂ (k₂ + 1) 0 (omega (arith, z .rows, w .predicates))
+  row-same = getD-set-same (p .rows) q₂ (k₂ + 1) 0 (omega (arith, w .rows-length, w .predicates))
 
   keeps : (i : ℕ) → i < p .rule .predicates → (k : ℕ) → k < getD (p .rows) i 0
       → rowOf (getD (p .arities) i 0) (withCells s at p cells) (withIndex s at p index) i k ≡ rowOf (getD (p .arities) i 0) cells index i k
@@ -220,6 +220,7 @@ module _ (s : List ℕ) (at group : ℕ) (p : Progress) (z : Sizes p) (w : Well 
     heads-length = w .heads-length;
     items = w .items;
     items-length = w .items-length;
+    rows-length = length-set (p .rows) q₂ (k₂ + 1) ∙ w .rows-length;
     total = omega (arith, r .room);
     arity = w .arity;
     sums = sum-set (p .rule .predicates) q₂ _ (λ (q : ℕ). getD (p .rows) q 0) d row-same row-other ∙ ap (λ (i : ℕ). i + 1) (w .sums);
@@ -290,6 +291,7 @@ module _ (s : List ℕ) (at group : ℕ) (p : Progress) (z : Sizes p) (w : Well 
     heads-length = length-set (p .rule .heads) n₃ (headFrom s at a₃) ∙ w .heads-length;
     items = w .items;
     items-length = w .items-length;
+    rows-length = w .rows-length;
     total = w .total;
     arity = w .arity;
     sums = w .sums;
@@ -340,6 +342,7 @@ module _ (group : ℕ) (x : ItemR) (p : Progress) (b : List Bool) (z : Sizes p) 
     heads-length = w .heads-length;
     items = omega arith;
     items-length = length-set (p .rule .items) n₄ x ∙ w .items-length;
+    rows-length = w .rows-length;
     total = w .total;
     arity = w .arity;
     sums = w .sums;

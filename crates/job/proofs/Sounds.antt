@@ -13,7 +13,7 @@ use Rattle.meaning.proofs.Tab.{length-tab}
 use Rattle.rule.specs.Rule.{bodyOf}
 use Rattle.meaning.specs.Job.{predicateLimit, rowLimit, headLimit, itemLimit, arityLimit, lessThan}
 use Rattle.job.specs.declared.table.Line.{Line}
-use Rattle.job.specs.Progress.{farthest, lessThanFrom, countOf, aritiesOf, jobWith, Well}
+use Rattle.job.specs.Progress.{farthest, lessThanFrom, countOf, aritiesOf, jobWith, Well, Filled}
 use Rattle.job.specs.Table.{LineIs, placesIn}
 use Rattle.job.specs.Fault.{Judges}
 use Rattle.job.specs.Grow.{Named, RowReady, RowAdded, Sound, Ready, Stepped, withPredicate, withHead, literalOf, withLiteral, withLessThan, nextRecord, nextCells, nextIndex}
@@ -66,7 +66,7 @@ tag-at s at t x q e = ap tagOf (sym q) ∙ e
 pub group-is : (r : Line) (t : ℕ) (x : Tag) → LineIs r (lineOf (tagOf t)) → tagOf t ≡ x → r .group ≡ lineOf x .group
 group-is r t x l e = l .group ∙ ap (λ (y : Tag). lineOf y .group) e
 
-module _ (s : List ℕ) (at : ℕ) (p : Progress) (cells index : List ℕ) (h : Ready s at p cells index) where
+module _ (s : List ℕ) (at : ℕ) (p : Progress) (h : Ready s at p) where
   module _ (x : Tag) (e : tagOf (tagAt s at) ≡ x) where
     room : countOf x p < lineOf x .limit
     room = rw e at (h .sound .limit)
@@ -105,7 +105,23 @@ module _ (s : List ℕ) (at : ℕ) (p : Progress) (cells index : List ℕ) (h : 
   unfolding countOf
   ready-5 e = (h .near, room lessThanTag e)
 
-  module _ (z : Sizes p) (group : ℕ) (r : Progress) where
+  module _ (group : ℕ) (r : Progress) (cells index : List ℕ) (f : Filled p cells index) where
+    pub step-2 : (cells′ index′ : List ℕ) → tagOf (tagAt s at) ≡ rowTag → group ≡ 2 → RowAdded s at group p r cells index cells′ index′ → Stepped s at p r cells index cells′ index′
+    unfolding nextRecord nextCells nextIndex
+    step-2 cells′ index′ e g q =
+        let m = ready-2 e in
+        let d = declared rowTag e (at + 3) (omega arith) (omega arith) in
+        rw (q .record-is, q .cells-are, q .index-is)
+        (record {
+          read = row-read s at group p (h .well) cells index f m d e g;
+          record-is = rw (e, g) refl;
+          cells-are = rw e refl;
+          index-is = rw e refl;
+          well = row-well s at group p (h .well) cells index f m d;
+          filled = row-filled s at group p (h .well) cells index f m d;
+        })
+
+  module _ (z : Sizes p) (group : ℕ) (r : Progress) (cells index : List ℕ) (f : Filled p cells index) where
     pub step-1 : tagOf (tagAt s at) ≡ predicateTag → group ≡ 1 → r ≡ withPredicate s at group p → Stepped s at p r cells index cells index
     unfolding outOfRange nextRecord nextCells nextIndex
     step-1 e g q =
@@ -118,22 +134,7 @@ module _ (s : List ℕ) (at : ℕ) (p : Progress) (cells index : List ℕ) (h : 
           cells-are = rw e refl;
           index-is = rw e refl;
           well = predicate-well s at group p z (h .well) m cells index a;
-          filled = predicate-filled s at group p z (h .well) m cells index (h .filled);
-        })
-
-    pub step-2 : (cells′ index′ : List ℕ) → tagOf (tagAt s at) ≡ rowTag → group ≡ 2 → RowAdded s at group p r cells index cells′ index′ → Stepped s at p r cells index cells′ index′
-    unfolding nextRecord nextCells nextIndex
-    step-2 cells′ index′ e g q =
-        let m = ready-2 e in
-        let d = declared rowTag e (at + 3) (omega arith) (omega arith) in
-        rw (q .record-is, q .cells-are, q .index-is)
-        (record {
-          read = row-read s at group p z (h .well) cells index (h .filled) m d e g;
-          record-is = rw (e, g) refl;
-          cells-are = rw e refl;
-          index-is = rw e refl;
-          well = row-well s at group p z (h .well) cells index (h .filled) m d;
-          filled = row-filled s at group p z (h .well) cells index (h .filled) m d;
+          filled = predicate-filled s at group p z (h .well) m cells index f;
         })
 
     pub step-3 : tagOf (tagAt s at) ≡ headTag → group ≡ 3 → r ≡ withHead s at group p → Stepped s at p r cells index cells index
@@ -148,7 +149,7 @@ module _ (s : List ℕ) (at : ℕ) (p : Progress) (cells index : List ℕ) (h : 
           cells-are = rw e refl;
           index-is = rw e refl;
           well = head-well s at group p z (h .well) cells index d m;
-          filled = head-filled s at group p z (h .well) cells index d m (h .filled);
+          filled = head-filled s at group p z (h .well) cells index d m f;
         })
 
     pub step-4 : tagOf (tagAt s at) ≡ literalTag → group ≡ 4 → r ≡ withLiteral s at group p → Stepped s at p r cells index cells index
@@ -165,7 +166,7 @@ module _ (s : List ℕ) (at : ℕ) (p : Progress) (cells index : List ℕ) (h : 
           cells-are = rw e refl;
           index-is = rw e refl;
           well = item-well group (literalOf s at p) p _ z (h .well) m cells index (bound-literal (p .bound) (bodyOf (p .rule)) (h .well .bound) s at n (h .well .arity (byteAt s (at + 4))) (z .bound) o);
-          filled = item-filled group (literalOf s at p) p _ z (h .well) m cells index (h .filled);
+          filled = item-filled group (literalOf s at p) p _ z (h .well) m cells index f;
         })
 
     pub step-5 : tagOf (tagAt s at) ≡ lessThanTag → group ≡ 4 → r ≡ withLessThan s at group p → Stepped s at p r cells index cells index
@@ -180,7 +181,7 @@ module _ (s : List ℕ) (at : ℕ) (p : Progress) (cells index : List ℕ) (h : 
           index-is = rw e refl;
           well = item-well group (lessThanFrom s at) p (p .bound) z (h .well) m cells index
               (rw (less-than-is s at) (bound-test (p .bound) (bodyOf (p .rule)) (h .well .bound) lessThan (termsAt s (at + 3) 2)));
-          filled = item-filled group (lessThanFrom s at) p (p .bound) z (h .well) m cells index (h .filled);
+          filled = item-filled group (lessThanFrom s at) p (p .bound) z (h .well) m cells index f;
         })
 
 -- the sizes of what `grow_row` stores, at the predicate that it read

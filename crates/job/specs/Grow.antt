@@ -145,10 +145,9 @@ pub record Sound (s : List ℕ) (at : ℕ) (p : Progress) : Type 0 where
   pub declared : 0 < lineOf (tagOf (tagAt s at)) .upTo → predicateAt (tagOf (tagAt s at)) s at < p .rule .predicates
   pub range : outOfRange (tagOf (tagAt s at)) s at (placesIn (tagAt s at) s at p) ≡ false
 
-pub record Ready (s : List ℕ) (at : ℕ) (p : Progress) (cells index : List ℕ) : Type 0 where
+pub record Ready (s : List ℕ) (at : ℕ) (p : Progress) : Type 0 where
   pub near : at + 128 < farthest
   pub well : Well p
-  pub filled : Filled p cells index
   pub sound : Sound s at p
 
 -- the field is read: what stands in the record and the arrays is the reading after it

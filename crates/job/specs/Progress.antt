@@ -107,6 +107,7 @@ pub record Well (p : Progress) : Type 0 where
   pub heads-length : length (p .rule .heads) ≡ headLimit
   pub items : p .rule .size ≤ itemLimit
   pub items-length : length (p .rule .items) ≡ itemLimit
+  pub rows-length : length (p .rows) ≡ predicateLimit
   pub total : p .total ≤ rowLimit
   pub arity : (q : ℕ) → getD (p .arities) q 0 ≤ arityLimit
   pub sums : sum (p .rule .predicates) (λ (q : ℕ). getD (p .rows) q 0) ≡ p .total

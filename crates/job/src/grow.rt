@@ -1,10 +1,14 @@
 // What has been read, with one field more that has no fault.
 ghost use mathlib.Core.Path.{_≡_};
-ghost use Prim.Native.Nat.{_+_, _*_, _≤_, _<_};
-ghost use Rattle.meaning.specs.Job.{arityLimit, predicateLimit, headLimit, itemLimit};
+ghost use mathlib.Core.Logic.{_≢_};
+ghost use mathlib.Core.List.{List};
+ghost use lib.ListN.{set};
+ghost use Prim.Native.Nat.{ℕ, _+_, _*_, _≤_, _<_};
+ghost use Rattle.meaning.specs.Job.{arityLimit, predicateLimit, rowLimit, headLimit, itemLimit};
+ghost use Rattle.meaning.specs.Reading.{tagAt};
 ghost use Rattle.job.specs.Puts.{puts};
-ghost use Rattle.job.specs.Progress.{farthest, cellLimit, cellFrom};
-ghost use Rattle.job.specs.Grow.{withPredicate, RowReady, RowAdded, withHead, withItem, withLiteral, withLessThan, Named, Ready, Stepped};
+ghost use Rattle.job.specs.Progress.{farthest, cellLimit, cellFrom, Filled};
+ghost use Rattle.job.specs.Grow.{withPredicate, withHead, withItem, withLiteral, withLessThan, Named, Ready, Stepped};
 use crate::bound::mark_terms;
 use crate::bytes::byte;
 use crate::bytes::four;
@@ -15,7 +19,6 @@ use crate::progress::Progress;
 use crate::table::HEAD;
 use crate::table::LITERAL;
 use crate::table::PREDICATE;
-use crate::table::ROW;
 use crate::table::line_of;
 use rule::ARITY_LIMIT;
 use rule::CELL_LIMIT;
@@ -53,28 +56,22 @@ fn store_cells(bytes: &[u8], i: usize, n: usize, cells: &mut [u32; CELL_LIMIT], 
 }
 
 // A row's cells stand after those of the rows before it; its number in the job stands in the index, after those of its predicate's rows.
-fn grow_row(
+pub fn store_row(
     bytes: &[u8],
     at: usize,
-    group: usize,
-    p: Progress,
+    predicate: usize,
+    n: usize,
+    k: usize,
+    total: usize,
     cells: &mut [u32; CELL_LIMIT],
     index: &mut [u16; INDEX_LIMIT],
-) -> Progress
-    requires { ⌜ RowReady (now bytes) at p ⌝ }
-    ensures { λ r. ⌜ RowAdded (now (bytes .entry)) at group p r (now (cells .entry)) (now (index .entry)) (now (cells .exit)) (now (index .exit)) ⌝ }
+)
+    requires { ⌜ (at + 128 < farthest) × (predicate < predicateLimit) × (n ≤ arityLimit) × (k ≤ total) × (total < rowLimit) ⌝ }
+    ensures { λ _. ⌜ now (cells .exit) ≡ puts (now (cells .entry)) (arityLimit * total) n (cellFrom (now (bytes .entry)) (at + 4)) ⌝ }
+    ensures { λ _. ⌜ now (index .exit) ≡ set (now (index .entry)) (rowLimit * predicate + k) total ⌝ }
 {
-    let predicate = byte(bytes, at + 3);
-    let n = p.arities[predicate];
-    let k = p.rows[predicate];
-    let total = p.total;
     store_cells(bytes, at + 4, n, cells, ARITY_LIMIT * total);
     index[ROW_LIMIT * predicate + k] = total as u16;
-    let mut r = p;
-    r.group = group;
-    r.rows[predicate] = k + 1;
-    r.total = total + 1;
-    r
 }
 
 fn grow_head(bytes: &[u8], at: usize, group: usize, p: Progress) -> Progress
@@ -131,21 +128,15 @@ fn grow_less_than(bytes: &[u8], at: usize, group: usize, p: Progress) -> Progres
     add_item(group, less_than_in(bytes, at), p)
 }
 
-pub fn grow(
-    bytes: &[u8],
-    at: usize,
-    p: Progress,
-    cells: &mut [u32; CELL_LIMIT],
-    index: &mut [u16; INDEX_LIMIT],
-) -> Progress
-    requires { ⌜ Ready (now bytes) at p (now cells) (now index) ⌝ }
-    ensures { λ r. ⌜ Stepped (now (bytes .entry)) at p r (now (cells .entry)) (now (index .entry)) (now (cells .exit)) (now (index .exit)) ⌝ }
+// A field that is no row. A row's step is taken where the record stands, in the reading loop.
+pub fn grow(bytes: &[u8], at: usize, p: Progress) -> Progress
+    requires { ⌜ Ready (now bytes) at p × (tagAt (now bytes) at ≢ 2) ⌝ }
+    ensures { λ r. ⌜ ((cells index : List ℕ) → Filled p cells index → Stepped (now (bytes .entry)) at p r cells index cells index) ⌝ }
 {
     let tag = byte(bytes, at);
     let group = line_of(tag).group;
     match tag {
         PREDICATE => grow_predicate(bytes, at, group, p),
-        ROW => grow_row(bytes, at, group, p, cells, index),
         HEAD => grow_head(bytes, at, group, p),
         LITERAL => grow_literal(bytes, at, group, p),
         _ => grow_less_than(bytes, at, group, p),

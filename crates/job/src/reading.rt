@@ -2,15 +2,19 @@
 ghost use mathlib.Core.Path.{_≡_};
 ghost use Rattle.meaning.specs.Reading.{reading};
 ghost use Rattle.job.specs.Answer.{madeOf, readingOf, Holds, Kept};
+use crate::bytes::byte;
 use crate::bytes::two;
 use crate::fault::Fault;
 use crate::fault::Judged;
 use crate::fault::Verdict;
 use crate::grow::grow;
+use crate::grow::store_row;
 use crate::judge::judge;
 use crate::last::last;
 use crate::progress::Progress;
 use crate::progress::nothing_yet;
+use crate::table::ROW;
+use crate::table::line_of;
 use rule::CELL_LIMIT;
 use rule::INDEX_LIMIT;
 use rule::JOB_LIMIT;
@@ -73,9 +77,23 @@ pub fn read_job(
                 made: made_of(p),
             };
         }
-        let next = grow(bytes, at, p, cells, index);
+        let end = at + 3 + two(bytes, at + 1);
+        if byte(bytes, at) == ROW {
+            // In place: the record is large, and most fields are rows.
+            let predicate = byte(bytes, at + 3);
+            let n = p.arities[predicate];
+            let k = p.rows[predicate];
+            let total = p.total;
+            store_row(bytes, at, predicate, n, k, total, cells, index);
+            p.group = line_of(ROW).group;
+            p.rows[predicate] = k + 1;
+            p.total = total + 1;
+            at = end;
+            continue;
+        }
+        let next = grow(bytes, at, p);
         p = next;
-        at = at + 3 + two(bytes, at + 1);
+        at = end;
     }
     ReadJob {
         verdict: last(bytes, p),

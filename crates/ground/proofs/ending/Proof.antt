@@ -3,8 +3,6 @@ use Rattle.walk.specs.Ran.{endedOf}
 use borrow.Author.Needs.{needs}
 use Rattle.ground.proofs.ending.Statement.{statement}
 use Rattle.ground.proofs.ending.Tie as tie
-use Rattle.ground.proofs.ending.Reads as reads
-use Rattle.ground.proofs.ending.Lts as lts
 
 enum-known-ended : tie.Need-enum-known-ended
 enum-known-ended c = search needs

@@ -3,13 +3,6 @@ use Rattle.ground.proofs.Joins.{refused-answer, numbered, accepted-answ
 use borrow.Author.Needs.{needs}
 use Rattle.ground.proofs.ground.Statement.{statement}
 use Rattle.ground.proofs.ground.Tie as tie
-use Rattle.ground.proofs.ground.Reads as reads
-use Rattle.ground.proofs.ground.Lts as lts
-use Rattle.ground.proofs.ending.Reads as ending-reads
-use Rattle.job.proofs.fault.number.Reads as number-reads
-use Rattle.job.proofs.reading.read_job.Reads as read-job-reads
-use Rattle.plan.proofs.tables.plan_of.Reads as plan-of-reads
-use Rattle.walk.proofs.run.run.Reads as run-reads
 
 read-job-requires : tie.Need-read-job-requires
 read-job-requires c κs = search needs

@@ -2,10 +2,6 @@ use Rattle.ground.proofs.Joins.{refused-shape, numbered, accepted-shape
 use borrow.Author.Needs.{needs}
 use Rattle.ground.proofs.shape_of.Statement.{statement}
 use Rattle.ground.proofs.shape_of.Tie as tie
-use Rattle.ground.proofs.shape_of.Reads as reads
-use Rattle.ground.proofs.shape_of.Lts as lts
-use Rattle.job.proofs.reading.read_job.Reads as read-job-reads
-use Rattle.plan.proofs.tables.plan_of.Reads as plan-of-reads
 
 read-job-requires : tie.Need-read-job-requires
 read-job-requires c κs = search needs

@@ -1,13 +1,18 @@
 -- The loop's invariant: what the record and the arrays stand for, read on from the offset, gives what the whole job's bytes do, and so does what they hold.
-use Rattle.meaning.specs.Job.{jobLimit}
-use borrow.Author.Needs.{needs}
+use mathlib.Core.Path.{_≡_, refl, sym, _∙_}
+use mathlib.Core.List.{List}
 use native.Mathlib.Omega.{arith}
 use borrow.Author.Needs.{needs}
 use denote.Ref.{now}
-use Prim.Native.Nat.{ℕ, _-_, _≤_}
-use lib.ListN.{length, length-replicate}
-use Rattle.job.specs.Progress.{cellLimit, indexLimit, readOf, Well, Filled}
-use Rattle.job.proofs.Sounds.{sound}
+use Prim.Native.Nat.{ℕ, _+_, _-_, _≤_, _<_}
+use lib.ListN.{length, length-replicate, getD}
+use Rattle.meaning.specs.Job.{jobLimit, predicateLimit, rowLimit, arityLimit}
+use Rattle.meaning.specs.Reading.{rowTag, tagAt, tagOf}
+use Rattle.job.specs.Progress.{farthest, cellLimit, indexLimit, readOf, Well, Filled}
+use Rattle.job.specs.Grow.{Sound, Ready, Stepped}
+use Rattle.job.specs.declared.progress.Progress.{Progress}
+use Rattle.job.proofs.Tags.{tag-2}
+use Rattle.job.proofs.Sounds.{sound, tag-at, group-is, ready-2, step-2, row-small}
 use Rattle.job.proofs.Stores.{Storing, stores-first, stores-long, stores-on, stores-stop, stores-end, holds}
 use Rattle.job.proofs.Ends.{Going, too-long, starts, refuses, continues, is-fine, accepts, not-accepted, kept}
 use Rattle.job.proofs.reading.read_job.Statement.{statement}
@@ -60,17 +65,30 @@ returns-2 c = (
 enum-told : tie.Need-enum-told Inv-loop μ-loop
 enum-told c = search needs
 
-grow-requires : tie.Need-grow-requires Inv-loop μ-loop
-grow-requires c κs =
-    record {
-      near = omega arith;
-      well = c .before .before .before .before .before .before .loop .inv .2;
-      filled = c .before .before .before .before .before .before .loop .inv .3;
-      sound = sound _ _ _ (c .before .before .before .before .before .before .loop .inv .2) (is-fine _ _ _ _ (c .before .before .enum-told .given .1) (c .before .before .before .before .judge .ensures));
-    }
+-- the field has no fault
+fine : (c : tie.After-enum-told Inv-loop μ-loop) → Sound (now (c .before .before .before .before .before .before .before .before .before .before .args .bytes)) (c .before .before .before .before .loop .at) (c .before .before .before .before .loop .p)
+fine c = sound _ _ _ (c .before .before .before .before .loop .inv .2) (is-fine _ _ _ _ (c .enum-told .given .1) (c .before .before .judge .ensures))
 
-add-at : tie.Need-add-at Inv-loop μ-loop
-add-at c = omega arith
+ready : (c : tie.After-enum-told Inv-loop μ-loop) → Ready (now (c .before .before .before .before .before .before .before .before .before .before .args .bytes)) (c .before .before .before .before .loop .at) (c .before .before .before .before .loop .p)
+ready c = record { near = omega arith; well = c .before .before .before .before .loop .inv .2; sound = fine c }
+
+-- the field is read, and the loop goes on behind it
+on : (c : tie.After-two Inv-loop μ-loop) (r : Progress) (cells index : List ℕ)
+    → Stepped (now (c .before .before .before .before .before .before .before .before .before .before .before .args .bytes)) (c .before .before .before .before .before .loop .at) (c .before .before .before .before .before .loop .p) r (c .before .before .before .before .before .loop .cells) (c .before .before .before .before .before .loop .index) cells index
+    → Inv-loop (now (c .before .before .before .before .before .before .before .before .before .before .before .args .bytes)) cells index r 0 cells index r (c .before .before .before .before .before .loop .at + 3 + c .two .result)
+on c r cells index s =
+    let l = c .before .before .before .before .before .loop in
+    let f = fine (c .before) in (
+      omega (arith, f .fits, c .two .ensures .0),
+      omega arith,
+      s .well,
+      s .filled,
+      continues _ _ _ _ _ (l .inv .4) (c .before .before .before .before .loop-test .taken) _ _ _ _ _ (c .before .enum-told .given .1) (c .before .before .before .judge .ensures) s (c .two .ensures .0),
+      stores-on _ _ _ _ _ (l .inv .5) _ _ _ _ _ (c .before .before .before .before .loop-test .taken) (c .before .enum-told .given .1) (c .before .before .before .judge .ensures) s (c .two .ensures .0),
+    )
+
+add-end : tie.Need-add-end Inv-loop μ-loop
+add-end c = omega arith
 
 add-two : tie.Need-add-two Inv-loop μ-loop
 add-two c = omega arith
@@ -78,22 +96,80 @@ add-two c = omega arith
 two-requires : tie.Need-two-requires Inv-loop μ-loop
 two-requires c κs = omega arith
 
-add-at-2 : tie.Need-add-at-2 Inv-loop μ-loop
-add-at-2 c = omega (arith, c .two .ensures .1)
+add-end-2 : tie.Need-add-end-2 Inv-loop μ-loop
+add-end-2 c = omega (arith, c .two .ensures .1)
+
+byte-requires : tie.Need-byte-requires Inv-loop μ-loop
+byte-requires c κs = search needs
+
+add-byte : tie.Need-add-byte Inv-loop μ-loop
+add-byte c = omega arith
+
+byte-requires-2 : tie.Need-byte-requires-2 Inv-loop μ-loop
+byte-requires-2 c κs = search needs
+
+-- a row: its tag, and the sizes of what is stored
+
+row-tag : (c : tie.After-byte2 Inv-loop μ-loop) → tagOf (tagAt (now (c .before .before .before .before .before .before .before .before .before .before .before .before .before .before .args .bytes)) (c .before .before .before .before .before .before .before .before .loop .at)) ≡ rowTag
+row-tag c = tag-at (now (c .before .before .before .before .before .before .before .before .before .before .before .before .before .before .args .bytes)) (c .before .before .before .before .before .before .before .before .loop .at) _ _ (c .before .before .byte .ensures .0) (tag-2 _ (c .before .if2 .taken))
+
+small : (c : tie.After-byte2 Inv-loop μ-loop)
+    → (c .before .before .before .before .before .before .before .before .loop .at + 128 < farthest) × (c .byte2 .result < predicateLimit) × (getD (c .before .before .before .before .before .before .before .before .loop .p .arities) (c .byte2 .result) 0 ≤ arityLimit)
+    × (getD (c .before .before .before .before .before .before .before .before .loop .p .rows) (c .byte2 .result) 0 ≤ c .before .before .before .before .before .before .before .before .loop .p .total) × (c .before .before .before .before .before .before .before .before .loop .p .total < rowLimit)
+small c = row-small _ _ _ _ (ready-2 _ _ _ (ready (c .before .before .before .before)) (row-tag c)) (c .byte2 .ensures .0)
+
+mul-n : tie.Need-mul-n Inv-loop μ-loop
+mul-n c = search needs
+
+element-copy-out-n : tie.Need-element-copy-out-n Inv-loop μ-loop
+element-copy-out-n c = omega (arith, small c)
+
+mul-k : tie.Need-mul-k Inv-loop μ-loop
+mul-k c = search needs
+
+element-copy-out-k : tie.Need-element-copy-out-k Inv-loop μ-loop
+element-copy-out-k c = omega (arith, small (c .before))
+
+store-row-requires : tie.Need-store-row-requires Inv-loop μ-loop
+store-row-requires c κs = small (c .before .before .before .before)
+
+line-of-requires : tie.Need-line-of-requires Inv-loop μ-loop
+line-of-requires c κs = search needs
+
+add-p : tie.Need-add-p Inv-loop μ-loop
+add-p c = omega (arith, small (c .before .before .before .before .before .before))
+
+mul-p : tie.Need-mul-p Inv-loop μ-loop
+mul-p c = search needs
+
+element-write-p : tie.Need-element-write-p Inv-loop μ-loop
+element-write-p c = omega (arith, small (c .before .before .before .before .before .before))
+
+add-p-2 : tie.Need-add-p-2 Inv-loop μ-loop
+add-p-2 c = omega (arith, small (c .before .before .before .before .before .before))
 
 loop-less : tie.Need-loop-less Inv-loop μ-loop
 loop-less c = omega arith
 
 loop-again : tie.Need-loop-again Inv-loop μ-loop
 loop-again c =
-    let f = sound (now (c .before .before .before .before .before .before .before .before .before .before .before .before .before .before .args .bytes)) (c .before .before .before .before .before .before .before .before .loop .at) _ (c .before .before .before .before .before .before .before .before .loop .inv .2) (is-fine _ _ _ _ (c .before .before .before .before .enum-told .given .1) (c .before .before .before .before .before .before .judge .ensures)) in (
-      omega (arith, f .fits, c .two .ensures .0),
-      omega arith,
-      c .before .grow .ensures .well,
-      c .before .grow .ensures .filled,
-      continues _ _ _ _ _ (c .before .before .before .before .before .before .before .before .loop .inv .4) (c .before .before .before .before .before .before .before .loop-test .taken) _ _ _ _ _ (c .before .before .before .before .enum-told .given .1) (c .before .before .before .before .before .before .judge .ensures) (c .before .grow .ensures) (c .two .ensures .0),
-      stores-on _ _ _ _ _ (c .before .before .before .before .before .before .before .before .loop .inv .5) _ _ _ _ _ (c .before .before .before .before .before .before .before .loop-test .taken) (c .before .before .before .before .enum-told .given .1) (c .before .before .before .before .before .before .judge .ensures) (c .before .grow .ensures) (c .two .ensures .0),
-    )
+    let q = c .before .before .before .before .before .before .byte2 .ensures .0 in
+    on (c .before .before .before .before .before .before .before .before .before) _ _ _
+    (step-2 _ _ _ (ready (c .before .before .before .before .before .before .before .before .before .before)) _ _ _ _ (c .before .before .before .before .before .before .before .before .before .before .before .before .before .before .loop .inv .3) _ _ (row-tag (c .before .before .before .before .before .before)) (group-is _ 2 rowTag (c .line-of .ensures) refl)
+    (record {
+      record-is = rw q refl;
+      cells-are = rw (← q) (c .before .store-row .ensures .0);
+      index-is = rw (← q) (c .before .store-row .ensures .1);
+    }))
+
+grow-requires : tie.Need-grow-requires Inv-loop μ-loop
+grow-requires c κs = (ready (c .before .before .before), λ e. c .if2 .left (c .before .byte .ensures .0 ∙ e))
+
+loop-less-2 : tie.Need-loop-less-2 Inv-loop μ-loop
+loop-less-2 c = omega arith
+
+loop-again-2 : tie.Need-loop-again-2 Inv-loop μ-loop
+loop-again-2 c = on (c .before .before .before) _ _ _ (c .grow .ensures _ _ (c .before .before .before .before .before .before .before .before .loop .inv .3))
 
 last-requires : tie.Need-last-requires Inv-loop μ-loop
 last-requires c κs = c .before .loop .inv .2
@@ -125,13 +201,28 @@ read-job-spec =
     made-of-requires-2
     returns-2
     enum-told
-    grow-requires
-    add-at
+    add-end
     add-two
     two-requires
-    add-at-2
+    add-end-2
+    byte-requires
+    add-byte
+    byte-requires-2
+    mul-n
+    element-copy-out-n
+    mul-k
+    element-copy-out-k
+    store-row-requires
+    line-of-requires
+    add-p
+    mul-p
+    element-write-p
+    add-p-2
     loop-less
     loop-again
+    grow-requires
+    loop-less-2
+    loop-again-2
     last-requires
     made-of-requires-3
     returns-3)

@@ -1,0 +1,2 @@
+-- How an answer is told in numbers.
+pub mod Told
