@@ -47,7 +47,7 @@ pub fn ground(job: &[u8], allowance: u32, list: &mut [u32]) -> Answer
     let rule = made.rule;
     let rows = made.rows;
     let plan = plan_of(rule);
-    ending(run(rule, plan, rows, &index[..], &cells[..], allowance, list))
+    ending(run(rule, plan, rows, &index, &cells[..], allowance, list))
 }
 
 // What the rule says of the list before any row is laid: the first `relevants` numbers are the relevant variables, by rising number, and an entry

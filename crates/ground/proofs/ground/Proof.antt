@@ -26,10 +26,6 @@ plan-of-requires c κs =
 
 slice-aggregate-run : tie.Need-slice-aggregate-run
 slice-aggregate-run c =
-    sym (c .before .before .before .before .before .before .before .read-job .ensures .1 .1 (c .before .before .before .before .before .enum-told .given .1) .index-length)
-
-slice-aggregate-run-2 : tie.Need-slice-aggregate-run-2
-slice-aggregate-run-2 c =
     sym (c .before .before .before .before .before .before .before .before .read-job .ensures .1 .1 (c .before .before .before .before .before .before .enum-told .given .1) .cells-length)
 
 run-requires : tie.Need-run-requires
@@ -56,7 +52,6 @@ ground-spec =
     enum-told
     plan-of-requires
     slice-aggregate-run
-    slice-aggregate-run-2
     run-requires
     ending-requires
     same-length
