@@ -11,9 +11,8 @@ use Rattle.meaning.specs.Reading.{lengthAt, refusals, first, Reading, refused, 
 use Rattle.job.specs.Progress.{cellLimit, indexLimit, nothingYet, readOf}
 use Rattle.job.specs.Fault.{numberOf, judgedOf, Judges}
 use Rattle.job.specs.Grow.{Stepped}
-use Rattle.job.specs.Answer.{verdictOf, readingOf, madeOf, Store, store, storeFrom, stored, Holds}
+use Rattle.job.specs.Answer.{verdictOf, readingOf, madeOf, endedOf, Store, store, storeFrom, stored, Holds}
 use Rattle.job.specs.declared.progress.Progress.{Progress}
-use Rattle.job.specs.declared.reading.Made.{Made}
 use Rattle.job.specs.declared.reading.ReadJob.{ReadJob}
 use Rattle.job.specs.declared.fault.Fault.{Fault}
 use Rattle.job.specs.declared.fault.Fault.the-variants.{Long, Cut, Tag, Group, Limit, Undeclared, Length, Range, Unbound, Unsafe, Empty}
@@ -73,9 +72,9 @@ module _ (s : List ℕ) (at : ℕ) (p : Progress) (cells index : List ℕ) (g : 
       go zero x = x
       go (suc m) x = sym (rw (le-ltb at (length s) l, storeFrom) refl) ∙ x
 
-pub holds : (s : List ℕ) (v : Verdict) (m : Made) (p : Progress) (cells index : List ℕ) → m ≡ madeOf p → store p cells index ≡ stored s → Holds s (record { verdict = v; made = m }) cells index
-holds s v m p cells index e q =
-    record { made = e ∙ ap (λ (x : Store). madeOf (x .progress)) q; cells-are = ap (λ (x : Store). x .cells) q; index-is = ap (λ (x : Store). x .index) q }
+pub holds : (s : List ℕ) (v : Verdict) (p : Progress) (cells index : List ℕ) → store p cells index ≡ stored s → Holds s (endedOf v p) cells index
+holds s v p cells index q =
+    record { made = ap (λ (x : Store). madeOf (x .progress)) q; cells-are = ap (λ (x : Store). x .cells) q; index-is = ap (λ (x : Store). x .index) q }
 
 -- two results that the promise allows are equal
 

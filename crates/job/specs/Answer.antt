@@ -35,6 +35,9 @@ LastIs r s p = (cells index : List ℕ) → verdictOf r (readOf p cells index .j
 abbrev pub madeOf : Progress → Made
 madeOf p = record { rule = p .rule; arities = p .arities; rows = p .rows; total = p .total }
 
+abbrev pub endedOf : Verdict → Progress → ReadJob
+endedOf verdict p = record { verdict = verdict; made = madeOf p }
+
 -- what a walk over the rows needs to know
 pub record Kept (m : Made) (cells index : List ℕ) : Type 0 where
   pub cells-length : length cells ≡ cellLimit

@@ -15,6 +15,7 @@ use crate::range::unbound_in;
 use crate::table::TAGS;
 use crate::table::line_of;
 use reader::Frame;
+use rule::PREDICATE_LIMIT;
 
 // How many places the predicate of a field has, or that it is not declared.
 pub enum Places {
@@ -22,8 +23,15 @@ pub enum Places {
     Undeclared,
 }
 
-fn places_of(bytes: &[u8], at: usize, tag: usize, p: Progress) -> Places
-    requires { ⌜ (at + 128 < farthest) × (1 ≤ tag) × (tag ≤ 5) × Well p ⌝ }
+// The record's arities are lent beside it: reading them in the record would copy them for each field.
+fn places_of<'a>(
+    bytes: &'a [u8],
+    at: usize,
+    tag: usize,
+    p: Progress,
+    arities: &'a [usize; PREDICATE_LIMIT],
+) -> Places
+    requires { ⌜ (at + 128 < farthest) × (1 ≤ tag) × (tag ≤ 5) × Well p × (now arities ≡ p .arities) ⌝ }
     ensures { λ r. ⌜ PlacesAre r tag (now (bytes .entry)) at p ⌝ }
 {
     let line = line_of(tag);
@@ -34,7 +42,7 @@ fn places_of(bytes: &[u8], at: usize, tag: usize, p: Progress) -> Places
     if p.rule.predicates <= predicate {
         return Places::Undeclared;
     }
-    Places::Of(p.arities[predicate])
+    Places::Of(arities[predicate])
 }
 
 // The exact length of a field whose predicate has n places.
@@ -74,23 +82,37 @@ fn judge_content(
 }
 
 // 7 where the length can't hold the bytes up to the predicate's, 6, and the rest.
-fn judge_named(bytes: &[u8], at: usize, tag: usize, length: usize, p: Progress) -> Judged
-    requires { ⌜ FieldAt (now bytes) at tag length × (1 ≤ tag) × (tag ≤ 5) × Well p ⌝ }
+fn judge_named<'a>(
+    bytes: &'a [u8],
+    at: usize,
+    tag: usize,
+    length: usize,
+    p: Progress,
+    arities: &'a [usize; PREDICATE_LIMIT],
+) -> Judged
+    requires { ⌜ FieldAt (now bytes) at tag length × (1 ≤ tag) × (tag ≤ 5) × Well p × (now arities ≡ p .arities) ⌝ }
     ensures { λ r. ⌜ Judges r (now (bytes .entry)) at p 4 ⌝ }
 {
     let line = line_of(tag);
     if length < line.upto {
         return Judged::Faulty(Fault::Length);
     }
-    match places_of(bytes, at, tag, p) {
+    match places_of(bytes, at, tag, p, arities) {
         Places::Undeclared => Judged::Faulty(Fault::Undeclared),
         Places::Of(n) => judge_content(bytes, at, tag, length, n, p),
     }
 }
 
 // 3, 4, 5, and the rest.
-fn judge_tag(bytes: &[u8], at: usize, tag: usize, length: usize, p: Progress) -> Judged
-    requires { ⌜ FieldAt (now bytes) at tag length × Well p ⌝ }
+fn judge_tag<'a>(
+    bytes: &'a [u8],
+    at: usize,
+    tag: usize,
+    length: usize,
+    p: Progress,
+    arities: &'a [usize; PREDICATE_LIMIT],
+) -> Judged
+    requires { ⌜ FieldAt (now bytes) at tag length × Well p × (now arities ≡ p .arities) ⌝ }
     ensures { λ r. ⌜ Judges r (now (bytes .entry)) at p 1 ⌝ }
 {
     if tag < 1 {
@@ -106,15 +128,20 @@ fn judge_tag(bytes: &[u8], at: usize, tag: usize, length: usize, p: Progress) ->
     if line.limit <= counted(tag, p) {
         return Judged::Faulty(Fault::Limit);
     }
-    judge_named(bytes, at, tag, length, p)
+    judge_named(bytes, at, tag, length, p, arities)
 }
 
-pub fn judge(bytes: &[u8], at: usize, p: Progress) -> Judged
-    requires { ⌜ (at + 128 < farthest) × Well p ⌝ }
+pub fn judge<'a>(
+    bytes: &'a [u8],
+    at: usize,
+    p: Progress,
+    arities: &'a [usize; PREDICATE_LIMIT],
+) -> Judged
+    requires { ⌜ (at + 128 < farthest) × Well p × (now arities ≡ p .arities) ⌝ }
     ensures { λ r. ⌜ Judges r (now (bytes .entry)) at p 0 ⌝ }
 {
     match reader::frame_in(bytes, at) {
         Frame::Cut => Judged::Faulty(Fault::Cut),
-        Frame::Field(tag, length) => judge_tag(bytes, at, tag, length, p),
+        Frame::Field(tag, length) => judge_tag(bytes, at, tag, length, p, arities),
     }
 }

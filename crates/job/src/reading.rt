@@ -1,7 +1,7 @@
 // A job's bytes, field by field.
 ghost use mathlib.Core.Path.{_≡_};
 ghost use Rattle.meaning.specs.Reading.{reading};
-ghost use Rattle.job.specs.Answer.{madeOf, readingOf, Holds, Kept};
+ghost use Rattle.job.specs.Answer.{endedOf, readingOf, Holds, Kept};
 use crate::bytes::byte;
 use crate::bytes::two;
 use crate::fault::Fault;
@@ -35,18 +35,20 @@ pub struct ReadJob {
     pub made: Made,
 }
 
-fn made_of(p: Progress) -> Made
-    ensures { λ r. ⌜ r ≡ madeOf p ⌝ }
+// How the reading ended, with what had been read.
+fn ended(verdict: Verdict, p: Progress) -> ReadJob
+    ensures { λ r. ⌜ r ≡ endedOf verdict p ⌝ }
 {
     let rule = p.rule;
     let arities = p.arities;
     let rows = p.rows;
-    Made {
+    let made = Made {
         rule,
         arities,
         rows,
         total: p.total,
-    }
+    };
+    ReadJob { verdict, made }
 }
 
 pub fn read_job(
@@ -63,19 +65,12 @@ pub fn read_job(
     *index = [0; INDEX_LIMIT];
     let mut p = nothing_yet();
     if JOB_LIMIT < bytes.len() {
-        return ReadJob {
-            verdict: Verdict::Refused(Fault::Long, 0),
-            made: made_of(p),
-        };
+        return ended(Verdict::Refused(Fault::Long, 0), p);
     }
     let mut at = 0usize;
     while at < bytes.len() {
-        let judged = judge(bytes, at, p);
-        if let Judged::Faulty(fault) = judged {
-            return ReadJob {
-                verdict: Verdict::Refused(fault, at),
-                made: made_of(p),
-            };
+        if let Judged::Faulty(fault) = judge(bytes, at, p, &p.arities) {
+            return ended(Verdict::Refused(fault, at), p);
         }
         let end = at + 3 + two(bytes, at + 1);
         if byte(bytes, at) == ROW {
@@ -83,20 +78,15 @@ pub fn read_job(
             let predicate = byte(bytes, at + 3);
             let n = p.arities[predicate];
             let k = p.rows[predicate];
-            let total = p.total;
-            store_row(bytes, at, predicate, n, k, total, cells, index);
+            store_row(bytes, at, predicate, n, k, p.total, cells, index);
             p.group = line_of(ROW).group;
             p.rows[predicate] = k + 1;
-            p.total = total + 1;
-            at = end;
-            continue;
+            p.total += 1;
+        } else {
+            let next = grow(bytes, at, p);
+            p = next;
         }
-        let next = grow(bytes, at, p);
-        p = next;
         at = end;
     }
-    ReadJob {
-        verdict: last(bytes, p),
-        made: made_of(p),
-    }
+    ended(last(bytes, p), p)
 }

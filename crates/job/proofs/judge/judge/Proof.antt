@@ -13,7 +13,9 @@ enum-known-tag : tie.Need-enum-known-tag
 enum-known-tag c = search needs
 
 judge-tag-requires : tie.Need-judge-tag-requires
-judge-tag-requires c κs = (field-at _ _ (c .before .before .before .before .before .args .p) _ _ _ (c .before .tag .given .1) (c .before .before .before .frame-in .ensures) (c .before .before .before .before .before .pre .0), c .before .before .before .before .before .pre .1)
+judge-tag-requires c κs =
+    let s = c .before .before .before .before .before in
+    (field-at _ _ (s .args .p) _ _ _ (c .before .tag .given .1) (c .before .before .before .frame-in .ensures) (s .pre .0), s .pre .1, s .pre .2)
 
 returns : tie.Need-returns
 returns c = judge-cut _ _ _ _ (c .enum-told .given .1) (c .before .before .frame-in .ensures)

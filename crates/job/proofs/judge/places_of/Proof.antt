@@ -21,7 +21,7 @@ byte-requires : tie.Need-byte-requires
 byte-requires c κs = search needs
 
 returns-2 : tie.Need-returns-2
-returns-2 c = names-missing _ _ _ _ _ (c .before .before .before .before .before .line-of .ensures) _ (c .before .before .before .if1 .left) (c .before .byte .ensures .0) (c .if2 .taken)
+returns-2 c = names-missing _ _ _ _ _ (c .before .before .before .before .before .before .line-of .ensures) _ (c .before .before .before .before .if1 .left) (c .before .before .byte .ensures .0) (c .if2 .taken)
 
 mul-t10 : tie.Need-mul-t10
 mul-t10 c = search needs
@@ -30,7 +30,9 @@ element-copy-out-t9 : tie.Need-element-copy-out-t9
 element-copy-out-t9 c = search needs
 
 returns-3 : tie.Need-returns-3
-returns-3 c = names-one _ _ _ _ _ (c .before .before .before .before .before .before .line-of .ensures) _ (c .before .before .before .before .if1 .left) (c .before .before .byte .ensures .0) (c .before .before .before .before .before .before .before .before .pre .3) (omega arith)
+returns-3 c =
+    let s = c .before .before .before .before .before .before .before .before .before in
+    rw (s .pre .4) (names-one _ _ _ _ _ (c .before .before .before .before .before .before .before .line-of .ensures) _ (c .before .before .before .before .before .if1 .left) (c .before .before .before .byte .ensures .0) (s .pre .3) (omega arith))
 
 pub places-of-spec : {M : Type 1} → statement M
 places-of-spec =

@@ -27,17 +27,13 @@ abbrev μ-loop : tie.MeasureT-loop
 nothing-yet-requires : tie.Need-nothing-yet-requires Inv-loop μ-loop
 nothing-yet-requires c κs = tt
 
-made-of-requires : tie.Need-made-of-requires Inv-loop μ-loop
-made-of-requires c κs = tt
+ended-requires : tie.Need-ended-requires Inv-loop μ-loop
+ended-requires c κs = tt
 
 returns : tie.Need-returns Inv-loop μ-loop
-returns c = (
-  too-long _ _ (c .before .if1 .taken),
-  (
-    holds _ _ _ _ _ _ (c .made-of .ensures) (stores-long _ _ (c .before .before .nothing-yet .ensures) (c .before .if1 .taken)),
-    λ a. not-accepted _ _ a,
-  ),
-)
+returns c =
+    rw (c .ended .ensures)
+    (too-long _ _ (c .before .if1 .taken), (holds _ _ _ _ _ (stores-long _ _ (c .before .before .nothing-yet .ensures) (c .before .if1 .taken)), λ a. not-accepted _ _ a))
 
 loop-holds : tie.Need-loop-holds Inv-loop μ-loop
 loop-holds c =
@@ -45,46 +41,57 @@ loop-holds c =
     (omega arith, omega arith, b .0, b .1, b .2, stores-first _ _ (c .before .nothing-yet .ensures) (omega arith))
 
 judge-requires : tie.Need-judge-requires Inv-loop μ-loop
-judge-requires c κs = (omega arith, c .before .loop .inv .2)
+judge-requires c κs = (omega arith, c .before .before .before .loop .inv .2, refl)
 
-enum-known-judged : tie.Need-enum-known-judged Inv-loop μ-loop
-enum-known-judged c = search needs
+enum-known-fault : tie.Need-enum-known-fault Inv-loop μ-loop
+enum-known-fault c = search needs
 
-made-of-requires-2 : tie.Need-made-of-requires-2 Inv-loop μ-loop
-made-of-requires-2 c κs = tt
+ended-requires-2 : tie.Need-ended-requires-2 Inv-loop μ-loop
+ended-requires-2 c κs = tt
 
 returns-2 : tie.Need-returns-2 Inv-loop μ-loop
-returns-2 c = (
-  refuses _ _ _ _ _ (c .before .before .before .before .before .before .loop .inv .4) (c .before .before .before .before .before .loop-test .taken) _ _ _ (c .before .before .judged .given .1) (c .before .before .before .before .judge .ensures),
-  (
-    holds _ _ _ _ _ _ (c .made-of2 .ensures) (stores-stop _ _ _ _ _ (c .before .before .before .before .before .before .loop .inv .5) _ _ (c .before .before .before .before .before .loop-test .taken) (c .before .before .judged .given .1) (c .before .before .before .before .judge .ensures)),
-    λ a. not-accepted _ _ a,
-  ),
-)
+returns-2 c =
+    let l = c .before .before .before .before .before .before .before .before .loop in
+    let t = c .before .before .before .before .before .before .before .loop-test .taken in
+    let j = c .before .before .before .before .judge .ensures in
+    rw (c .ended2 .ensures)
+    (refuses _ _ _ _ _ (l .inv .4) t _ _ _ (c .before .before .fault .given .1) j, (holds _ _ _ _ _ (stores-stop _ _ _ _ _ (l .inv .5) _ _ t (c .before .before .fault .given .1) j), λ a. not-accepted _ _ a))
 
 enum-told : tie.Need-enum-told Inv-loop μ-loop
 enum-told c = search needs
 
--- the field has no fault
-fine : (c : tie.After-enum-told Inv-loop μ-loop) → Sound (now (c .before .before .before .before .before .before .before .before .before .before .args .bytes)) (c .before .before .before .before .loop .at) (c .before .before .before .before .loop .p)
-fine c = sound _ _ _ (c .before .before .before .before .loop .inv .2) (is-fine _ _ _ _ (c .enum-told .given .1) (c .before .before .judge .ensures))
+-- the field at hand, which has no fault
 
-ready : (c : tie.After-enum-told Inv-loop μ-loop) → Ready (now (c .before .before .before .before .before .before .before .before .before .before .args .bytes)) (c .before .before .before .before .loop .at) (c .before .before .before .before .loop .p)
-ready c = record { near = omega arith; well = c .before .before .before .before .loop .inv .2; sound = fine c }
+abbrev job-bytes : tie.After-enum-told Inv-loop μ-loop → List ℕ
+job-bytes c = now (c .before .before .before .before .before .before .before .before .before .before .before .before .args .bytes)
+
+abbrev field-at : tie.After-enum-told Inv-loop μ-loop → ℕ
+field-at c = c .before .before .before .before .before .before .loop .at
+
+abbrev so-far : tie.After-enum-told Inv-loop μ-loop → Progress
+so-far c = c .before .before .before .before .before .before .loop .p
+
+fine : (c : tie.After-enum-told Inv-loop μ-loop) → Sound (job-bytes c) (field-at c) (so-far c)
+fine c = sound _ _ _ (c .before .before .before .before .before .before .loop .inv .2) (is-fine _ _ _ _ (c .enum-told .given .1) (c .before .before .judge .ensures))
+
+ready : (c : tie.After-enum-told Inv-loop μ-loop) → Ready (job-bytes c) (field-at c) (so-far c)
+ready c = record { near = omega arith; well = c .before .before .before .before .before .before .loop .inv .2; sound = fine c }
 
 -- the field is read, and the loop goes on behind it
 on : (c : tie.After-two Inv-loop μ-loop) (r : Progress) (cells index : List ℕ)
-    → Stepped (now (c .before .before .before .before .before .before .before .before .before .before .before .args .bytes)) (c .before .before .before .before .before .loop .at) (c .before .before .before .before .before .loop .p) r (c .before .before .before .before .before .loop .cells) (c .before .before .before .before .before .loop .index) cells index
-    → Inv-loop (now (c .before .before .before .before .before .before .before .before .before .before .before .args .bytes)) cells index r 0 cells index r (c .before .before .before .before .before .loop .at + 3 + c .two .result)
+    → Stepped (job-bytes (c .before)) (field-at (c .before)) (so-far (c .before)) r (c .before .before .before .before .before .before .before .loop .cells) (c .before .before .before .before .before .before .before .loop .index) cells index
+    → Inv-loop (job-bytes (c .before)) cells index r 0 cells index r (field-at (c .before) + 3 + c .two .result)
 on c r cells index s =
-    let l = c .before .before .before .before .before .loop in
-    let f = fine (c .before) in (
-      omega (arith, f .fits, c .two .ensures .0),
+    let l = c .before .before .before .before .before .before .before .loop in
+    let t = c .before .before .before .before .before .before .loop-test .taken in
+    let f = c .before .enum-told .given .1 in
+    let j = c .before .before .before .judge .ensures in (
+      omega (arith, fine (c .before) .fits, c .two .ensures .0),
       omega arith,
       s .well,
       s .filled,
-      continues _ _ _ _ _ (l .inv .4) (c .before .before .before .before .loop-test .taken) _ _ _ _ _ (c .before .enum-told .given .1) (c .before .before .before .judge .ensures) s (c .two .ensures .0),
-      stores-on _ _ _ _ _ (l .inv .5) _ _ _ _ _ (c .before .before .before .before .loop-test .taken) (c .before .enum-told .given .1) (c .before .before .before .judge .ensures) s (c .two .ensures .0),
+      continues _ _ _ _ _ (l .inv .4) t _ _ _ _ _ f j s (c .two .ensures .0),
+      stores-on _ _ _ _ _ (l .inv .5) _ _ _ _ _ t f j s (c .two .ensures .0),
     )
 
 add-end : tie.Need-add-end Inv-loop μ-loop
@@ -110,12 +117,12 @@ byte-requires-2 c κs = search needs
 
 -- a row: its tag, and the sizes of what is stored
 
-row-tag : (c : tie.After-byte2 Inv-loop μ-loop) → tagOf (tagAt (now (c .before .before .before .before .before .before .before .before .before .before .before .before .before .before .args .bytes)) (c .before .before .before .before .before .before .before .before .loop .at)) ≡ rowTag
-row-tag c = tag-at (now (c .before .before .before .before .before .before .before .before .before .before .before .before .before .before .args .bytes)) (c .before .before .before .before .before .before .before .before .loop .at) _ _ (c .before .before .byte .ensures .0) (tag-2 _ (c .before .if2 .taken))
+row-tag : (c : tie.After-byte2 Inv-loop μ-loop) → tagOf (tagAt (job-bytes (c .before .before .before .before)) (field-at (c .before .before .before .before))) ≡ rowTag
+row-tag c = tag-at (job-bytes (c .before .before .before .before)) (field-at (c .before .before .before .before)) _ _ (c .before .before .byte .ensures .0) (tag-2 _ (c .before .if2 .taken))
 
 small : (c : tie.After-byte2 Inv-loop μ-loop)
-    → (c .before .before .before .before .before .before .before .before .loop .at + 128 < farthest) × (c .byte2 .result < predicateLimit) × (getD (c .before .before .before .before .before .before .before .before .loop .p .arities) (c .byte2 .result) 0 ≤ arityLimit)
-    × (getD (c .before .before .before .before .before .before .before .before .loop .p .rows) (c .byte2 .result) 0 ≤ c .before .before .before .before .before .before .before .before .loop .p .total) × (c .before .before .before .before .before .before .before .before .loop .p .total < rowLimit)
+    → (field-at (c .before .before .before .before) + 128 < farthest) × (c .byte2 .result < predicateLimit) × (getD (so-far (c .before .before .before .before) .arities) (c .byte2 .result) 0 ≤ arityLimit)
+    × (getD (so-far (c .before .before .before .before) .rows) (c .byte2 .result) 0 ≤ so-far (c .before .before .before .before) .total) × (so-far (c .before .before .before .before) .total < rowLimit)
 small c = row-small _ _ _ _ (ready-2 _ _ _ (ready (c .before .before .before .before)) (row-tag c)) (c .byte2 .ensures .0)
 
 mul-n : tie.Need-mul-n Inv-loop μ-loop
@@ -148,6 +155,9 @@ element-write-p c = omega (arith, small (c .before .before .before .before .befo
 add-p-2 : tie.Need-add-p-2 Inv-loop μ-loop
 add-p-2 c = omega (arith, small (c .before .before .before .before .before .before))
 
+grow-requires : tie.Need-grow-requires Inv-loop μ-loop
+grow-requires c κs = (ready (c .before .before .before), λ e. c .if2 .left (c .before .byte .ensures .0 ∙ e))
+
 loop-less : tie.Need-loop-less Inv-loop μ-loop
 loop-less c = omega arith
 
@@ -155,36 +165,30 @@ loop-again : tie.Need-loop-again Inv-loop μ-loop
 loop-again c =
     let q = c .before .before .before .before .before .before .byte2 .ensures .0 in
     on (c .before .before .before .before .before .before .before .before .before) _ _ _
-    (step-2 _ _ _ (ready (c .before .before .before .before .before .before .before .before .before .before)) _ _ _ _ (c .before .before .before .before .before .before .before .before .before .before .before .before .before .before .loop .inv .3) _ _ (row-tag (c .before .before .before .before .before .before)) (group-is _ 2 rowTag (c .line-of .ensures) refl)
+    (step-2 _ _ _ (ready (c .before .before .before .before .before .before .before .before .before .before)) _ _ _ _ (c .before .before .before .before .before .before .before .before .before .before .before .before .before .before .before .before .loop .inv .3) _ _ (row-tag (c .before .before .before .before .before .before)) (group-is _ 2 rowTag (c .line-of .ensures) refl)
     (record {
       record-is = rw q refl;
       cells-are = rw (← q) (c .before .store-row .ensures .0);
       index-is = rw (← q) (c .before .store-row .ensures .1);
     }))
 
-grow-requires : tie.Need-grow-requires Inv-loop μ-loop
-grow-requires c κs = (ready (c .before .before .before), λ e. c .if2 .left (c .before .byte .ensures .0 ∙ e))
-
 loop-less-2 : tie.Need-loop-less-2 Inv-loop μ-loop
 loop-less-2 c = omega arith
 
 loop-again-2 : tie.Need-loop-again-2 Inv-loop μ-loop
-loop-again-2 c = on (c .before .before .before) _ _ _ (c .grow .ensures _ _ (c .before .before .before .before .before .before .before .before .loop .inv .3))
+loop-again-2 c = on (c .before .before .before) _ _ _ (c .grow .ensures _ _ (c .before .before .before .before .before .before .before .before .before .before .loop .inv .3))
 
 last-requires : tie.Need-last-requires Inv-loop μ-loop
 last-requires c κs = c .before .loop .inv .2
 
-made-of-requires-3 : tie.Need-made-of-requires-3 Inv-loop μ-loop
-made-of-requires-3 c κs = tt
+ended-requires-3 : tie.Need-ended-requires-3 Inv-loop μ-loop
+ended-requires-3 c κs = tt
 
 returns-3 : tie.Need-returns-3 Inv-loop μ-loop
-returns-3 c = (
-  rw (c .made-of3 .ensures) (accepts _ _ _ _ _ _ (c .before .before .before .loop .inv .4) (omega arith) (c .before .last .ensures)),
-  (
-    holds _ _ _ _ _ _ (c .made-of3 .ensures) (stores-end _ _ _ _ _ (c .before .before .before .loop .inv .5) (omega arith)),
-    λ a. rw (c .made-of3 .ensures) (kept _ _ _ (c .before .before .before .loop .inv .2) (c .before .before .before .loop .inv .3)),
-  ),
-)
+returns-3 c =
+    let l = c .before .before .before .loop in
+    rw (c .ended3 .ensures)
+    (accepts _ _ _ _ _ _ (l .inv .4) (omega arith) (c .before .last .ensures), (holds _ _ _ _ _ (stores-end _ _ _ _ _ (l .inv .5) (omega arith)), λ a. kept _ _ _ (l .inv .2) (l .inv .3)))
 
 pub read-job-spec : {M : Type 1} → statement M
 read-job-spec =
@@ -193,12 +197,12 @@ read-job-spec =
     Inv-loop
     μ-loop
     nothing-yet-requires
-    made-of-requires
+    ended-requires
     returns
     loop-holds
     judge-requires
-    enum-known-judged
-    made-of-requires-2
+    enum-known-fault
+    ended-requires-2
     returns-2
     enum-told
     add-end
@@ -218,11 +222,11 @@ read-job-spec =
     mul-p
     element-write-p
     add-p-2
+    grow-requires
     loop-less
     loop-again
-    grow-requires
     loop-less-2
     loop-again-2
     last-requires
-    made-of-requires-3
+    ended-requires-3
     returns-3)
