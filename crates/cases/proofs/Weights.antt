@@ -6,7 +6,7 @@ use native.Mathlib.Nat.{mod-add-mod, add-mod, suc-mul}
 use native.Mathlib.Omega.{arith}
 use lib.ListN.{length, getD, drop}
 use lib.Seq.{drop-cons, drop-length}
-use Rattle.cases.specs.Cells.{cellBefore, weightFrom, weight}
+use Rattle.cases.specs.Cells.{cellBefore, weightFrom}
 
 pub before-first : 12345 ≡ cellBefore 0
 unfolding cellBefore

@@ -1,8 +1,8 @@
 -- The three numbers of an answer, and the cells, are those of the meaning's.
 use Prim.Native.Nat.{ℕ}
-use mathlib.Core.Path.{_≡_, sym, ap, _∙_}
+use mathlib.Core.Path.{_≡_, ap, _∙_}
 use mathlib.Core.List.{List}
-use Rattle.meaning.specs.Ground.{Answer, Grounded}
+use Rattle.meaning.specs.Ground.{Grounded}
 use Rattle.ground.specs.Answer.{answerOf, grounded}
 use Rattle.ground.specs.declared.Answer.{Answer as AnswerR}
 use Rattle.exported.specs.Told.{endingOf, firstOf, secondOf, told, toldOf}

@@ -1,14 +1,12 @@
 -- The ways out of `frame_at`, and what a caller learns from its answer.
 use Prim.Native.Nat.{ℕ, _+_, _*_, _<_, _≤_}
-use mathlib.Core.Path.{_≡_, refl, ap}
-use mathlib.Core.Bool.{Bool, true, false, _||_}
+use mathlib.Core.Path.{_≡_, ap}
 use mathlib.Core.List.{List}
 use borrow.Author.Tests.{lt-ltb, le-ltb}
 use native.Mathlib.Omega.{arith}
 use lib.ListN.{length}
 use Rattle.meaning.specs.Reading.{byteAt, tagAt, lengthAt}
 use Rattle.reader.specs.Frame.{frameAt}
-use Rattle.reader.specs.declared.Frame.{Frame}
 use Rattle.reader.specs.declared.Frame.the-variants.{Cut, Field}
 
 module _ (s : List ℕ) (at : ℕ) where

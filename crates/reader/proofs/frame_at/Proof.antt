@@ -4,8 +4,6 @@ use Rattle.reader.proofs.Laws.{cut, short, whole}
 use borrow.Author.Needs.{needs}
 use Rattle.reader.proofs.frame_at.Statement.{statement}
 use Rattle.reader.proofs.frame_at.Tie as tie
-use Rattle.reader.proofs.frame_at.Reads as reads
-use Rattle.reader.proofs.frame_at.Lts as lts
 
 returns : tie.Need-returns
 returns c = cut _ _ (omega arith)

@@ -1,5 +1,5 @@
 -- The loop's invariant: what the record and the arrays stand for, read on from the offset, gives what the whole job's bytes do, and so does what they hold.
-use mathlib.Core.Path.{_≡_, refl, sym, _∙_}
+use mathlib.Core.Path.{_≡_, refl, _∙_}
 use mathlib.Core.List.{List}
 use native.Mathlib.Omega.{arith}
 use borrow.Author.Needs.{needs}
