@@ -17,7 +17,8 @@ use Rattle.meaning.specs.Reading.{lengthAt, refusals, first, Read, after, nothi
 use Rattle.meaning.proofs.Tab.{length-tab}
 use Rattle.rule.specs.Rule.{noItem, termsOf, itemAt, bodyOf, headAt, headsOf, solvedOf}
 use Rattle.job.specs.Bound.{isBound, free}
-use Rattle.job.specs.Progress.{cellLimit, indexLimit, nothingYet, aritiesOf, tablesOf, placesOf, readOf, sum, Well, Filled}
+use Rattle.rule.specs.Limits.{cellLimit, indexLimit}
+use Rattle.job.specs.Progress.{nothingYet, aritiesOf, tablesOf, placesOf, readOf, sum, Well, Filled}
 use Rattle.job.specs.Fault.{numberOf, judgedOf, Judges}
 use Rattle.job.specs.Answer.{verdictOf, LastIs, madeOf, Kept}
 use Rattle.job.specs.Grow.{Stepped}

@@ -8,7 +8,8 @@ use borrow.Author.Tests.{lt-ltb, le-ltb}
 use lib.ListN.{length, getD, replicate}
 use Rattle.meaning.specs.Job.{jobLimit, Job}
 use Rattle.meaning.specs.Reading.{lengthAt, refusals, first, Reading, refused, accepted, reading}
-use Rattle.job.specs.Progress.{cellLimit, indexLimit, nothingYet, readOf}
+use Rattle.rule.specs.Limits.{cellLimit, indexLimit}
+use Rattle.job.specs.Progress.{nothingYet, readOf}
 use Rattle.job.specs.Fault.{numberOf, judgedOf, Judges}
 use Rattle.job.specs.Grow.{Stepped}
 use Rattle.job.specs.Answer.{verdictOf, readingOf, madeOf, endedOf, Store, store, storeFrom, stored, Holds}

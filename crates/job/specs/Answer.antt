@@ -8,7 +8,8 @@ use lib.ListN.{length, getD, replicate}
 use lib.Dec.{ltb}
 use Rattle.meaning.specs.Job.{jobLimit, predicateLimit, rowLimit, headLimit, itemLimit, arityLimit, Job}
 use Rattle.meaning.specs.Reading.{tagAt, lengthAt, tagOf, refusals, first, Reading, refused, accepted, finish}
-use Rattle.job.specs.Progress.{cellLimit, indexLimit, nothingYet, jobWith, readOf}
+use Rattle.rule.specs.Limits.{cellLimit, indexLimit}
+use Rattle.job.specs.Progress.{nothingYet, jobWith, readOf}
 use Rattle.job.specs.Grow.{nextRecord, nextCells, nextIndex}
 use Rattle.job.specs.Fault.{numberOf}
 use Rattle.job.specs.declared.progress.Progress.{Progress}

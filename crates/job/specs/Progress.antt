@@ -11,6 +11,7 @@ use Rattle.meaning.specs.Reading.{byteAt, be32, Tag, predicateTag, rowTag, head
 use Rattle.rule.specs.declared.Term.{Term}
 use Rattle.rule.specs.declared.Item.{Item}
 use Rattle.rule.specs.declared.Rule.{Rule}
+use Rattle.rule.specs.Limits.{cellLimit, indexLimit}
 use Rattle.rule.specs.Rule.{ruleOf, bodyOf, noTerm}
 use Rattle.job.specs.Puts.{puts}
 use Rattle.job.specs.Bound.{Bound}
@@ -19,13 +20,6 @@ use Rattle.job.specs.declared.progress.Progress.{Progress}
 -- no offset that the reading comes to reaches this: sums of offsets fit
 abbrev pub farthest : ℕ
 farthest = 1048576
-
--- the limits of the lent arrays: the cells of all rows, and a number for each row that each predicate may have
-abbrev pub cellLimit : ℕ
-cellLimit = 4096
-
-abbrev pub indexLimit : ℕ
-indexLimit = 16384
 
 -- from the bytes: a row's cell, a term, n terms, an item
 

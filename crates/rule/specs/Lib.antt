@@ -1,2 +1,3 @@
 -- How the code's records stand for the meaning.
+pub mod Limits
 pub mod Rule

@@ -8,7 +8,8 @@ use Prim.Native.Nat.{ℕ, _+_, _-_, _≤_, _<_}
 use lib.ListN.{length, length-replicate, getD}
 use Rattle.meaning.specs.Job.{jobLimit, predicateLimit, rowLimit, arityLimit}
 use Rattle.meaning.specs.Reading.{rowTag, tagAt, tagOf}
-use Rattle.job.specs.Progress.{farthest, cellLimit, indexLimit, readOf, Well, Filled}
+use Rattle.rule.specs.Limits.{cellLimit, indexLimit}
+use Rattle.job.specs.Progress.{farthest, readOf, Well, Filled}
 use Rattle.job.specs.Grow.{Sound, Ready, Stepped}
 use Rattle.job.specs.declared.progress.Progress.{Progress}
 use Rattle.job.proofs.Tags.{tag-2}
