@@ -1,6 +1,5 @@
 // Runs the jobs of a packed file and prints what becomes of each. A record is four big-endian numbers (allowance, cells, the job's
 // length, 0) and then the job's bytes.
-ghost use Prim.Native.Nat.{_≤_};
 
 mod cells;
 mod record;
@@ -12,18 +11,13 @@ use crate::record::Record;
 use crate::record::read_head;
 use libc::STDOUT_FILENO;
 use rule::JOB_LIMIT;
+use rule::at_most;
 
 // The cells of the longest list that is lent.
 const LIST_ROOM: usize = 4096;
 
 // The bytes of the longest job of the file: one more than a job may have.
 const JOB_ROOM: usize = JOB_LIMIT + 1;
-
-fn at_most(n: usize, most: usize) -> usize
-    ensures { λ r. ⌜ r ≤ most ⌝ }
-{
-    if n < most { n } else { most }
-}
 
 // A job's lines, and the weight of the lent cells after the run.
 fn run(job: &[u8], allowance: u32, list: &mut [u32]) {

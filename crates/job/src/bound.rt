@@ -1,5 +1,5 @@
 // The variables that positive literals hold.
-ghost use Prim.Native.Nat.{_<_, min};
+ghost use Prim.Native.Nat.{_<_};
 ghost use mathlib.Core.Path.{_≡_};
 ghost use Rattle.meaning.specs.Job.{arityLimit};
 ghost use Rattle.rule.specs.Rule.{termAt, termsOf};
@@ -7,12 +7,7 @@ ghost use Rattle.job.specs.Bound.{freeTerm, free, markOne, marked};
 use rule::ARITY_LIMIT;
 use rule::Item;
 use rule::VARIABLE_LIMIT;
-
-pub fn least(a: usize, b: usize) -> usize
-    ensures { λ r. ⌜ r ≡ min a b ⌝ }
-{
-    if a < b { a } else { b }
-}
+use rule::at_most;
 
 // Term j of the item is a variable that is not bound.
 fn free_term(x: Item, j: usize, bound: &[bool; VARIABLE_LIMIT]) -> bool
@@ -33,7 +28,7 @@ fn free_term(x: Item, j: usize, bound: &[bool; VARIABLE_LIMIT]) -> bool
 pub fn free_terms(x: Item, bound: &[bool; VARIABLE_LIMIT]) -> bool
     ensures { λ r. ⌜ r ≡ free (now (bound .entry)) (termsOf x) ⌝ }
 {
-    let n = least(x.arity, ARITY_LIMIT);
+    let n = at_most(x.arity, ARITY_LIMIT);
     let mut j = 0usize;
     while j < n {
         if free_term(x, j, bound) {
@@ -63,7 +58,7 @@ fn mark_term(x: Item, j: usize, bound: &mut [bool; VARIABLE_LIMIT])
 pub fn mark_terms(x: Item, bound: &mut [bool; VARIABLE_LIMIT])
     ensures { λ _. ⌜ now (bound .exit) ≡ marked (now (bound .entry)) (termsOf x) ⌝ }
 {
-    let n = least(x.arity, ARITY_LIMIT);
+    let n = at_most(x.arity, ARITY_LIMIT);
     let mut j = 0usize;
     while j < n {
         mark_term(x, j, bound);

@@ -1,7 +1,6 @@
 // The lister's text for an answer: document 01, case 2.
-ghost use mathlib.Core.Path.{_≡_};
 ghost use mathlib.Core.List.{[], _∷_, _++_};
-ghost use Prim.Native.Nat.{_≤_, min};
+ghost use Prim.Native.Nat.{_≤_};
 ghost use lib.ListN.{length, take};
 ghost use Rattle.lines.specs.Lines.{vars, spaced, line, entryLine, entryLines, runLines, linesOf};
 ghost use Rattle.lines.specs.Put.{Put, Written};
@@ -15,12 +14,7 @@ use crate::put::put_word;
 use ground::Answer;
 use ground::Shape;
 use rule::VARIABLE_LIMIT;
-
-fn at_most(n: usize, most: usize) -> usize
-    ensures { λ r. ⌜ r ≡ min n most ⌝ }
-{
-    if n < most { n } else { most }
-}
+use rule::at_most;
 
 fn put_variables(out: &mut [u8], at: usize, variables: &[usize]) -> usize
     requires { ⌜ at ≤ length (now out) ⌝ }

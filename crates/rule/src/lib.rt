@@ -1,4 +1,6 @@
 // The rule as the code holds it; how it stands for a rule of the meaning is in specs/. The limits of document 01 have their names here.
+ghost use mathlib.Core.Path.{_≡_};
+ghost use Prim.Native.Nat.{min};
 
 pub const JOB_LIMIT: usize = 32768;
 
@@ -48,4 +50,11 @@ pub struct Rule {
     pub many: usize,
     pub solved: [bool; PREDICATE_LIMIT],
     pub predicates: usize,
+}
+
+// A number, or the limit where that is less.
+pub fn at_most(n: usize, limit: usize) -> usize
+    ensures { λ r. ⌜ r ≡ min n limit ⌝ }
+{
+    if n < limit { n } else { limit }
 }

@@ -19,11 +19,11 @@ Inv-loop x bound n j₀ j = (j ≤ n) × (n ≤ arityLimit) × (n ≡ min (x .ar
 abbrev μ-loop : tie.MeasureT-loop
 μ-loop x bound n j₀ j = n - j
 
-least-requires : tie.Need-least-requires Inv-loop μ-loop
-least-requires c κs = tt
+at-most-requires : tie.Need-at-most-requires Inv-loop μ-loop
+at-most-requires c κs = tt
 
 loop-holds : tie.Need-loop-holds Inv-loop μ-loop
-loop-holds c = (omega arith, omega (arith, c .least .ensures, min-le-right (c .before .args .x .arity) arityLimit), c .least .ensures, free-none (now (c .before .args .bound)) (c .before .args .x))
+loop-holds c = (omega arith, omega (arith, c .at-most .ensures, min-le-right (c .before .args .x .arity) arityLimit), c .at-most .ensures, free-none (now (c .before .args .bound)) (c .before .args .x))
 
 free-term-requires : tie.Need-free-term-requires Inv-loop μ-loop
 free-term-requires c κs = omega arith
@@ -49,7 +49,7 @@ free-terms-spec =
     (tie.spec
     Inv-loop
     μ-loop
-    least-requires
+    at-most-requires
     loop-holds
     free-term-requires
     returns

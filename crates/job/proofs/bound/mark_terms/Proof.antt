@@ -18,11 +18,11 @@ Inv-loop x bound₀ n j₀ bound j = (j ≤ n) × (n ≤ arityLimit) × (n ≡ m
 abbrev μ-loop : tie.MeasureT-loop
 μ-loop x bound₀ n j₀ bound j = n - j
 
-least-requires : tie.Need-least-requires Inv-loop μ-loop
-least-requires c κs = tt
+at-most-requires : tie.Need-at-most-requires Inv-loop μ-loop
+at-most-requires c κs = tt
 
 loop-holds : tie.Need-loop-holds Inv-loop μ-loop
-loop-holds c = (omega arith, omega (arith, c .least .ensures, min-le-right (c .before .args .x .arity) arityLimit), c .least .ensures, marked-none (now (c .before .args .bound)) (c .before .args .x))
+loop-holds c = (omega arith, omega (arith, c .at-most .ensures, min-le-right (c .before .args .x .arity) arityLimit), c .at-most .ensures, marked-none (now (c .before .args .bound)) (c .before .args .x))
 
 mark-term-requires : tie.Need-mark-term-requires Inv-loop μ-loop
 mark-term-requires c κs = omega arith
@@ -45,7 +45,7 @@ mark-terms-spec =
     (tie.spec
     Inv-loop
     μ-loop
-    least-requires
+    at-most-requires
     loop-holds
     mark-term-requires
     add-j
