@@ -1,9 +1,11 @@
-//! The document's cases 1 to 12.
+//! The document's cases 1 to 12, and those of request 1/14.
 
-use crate::fields::{head, n, negated, positive, predicate, row, v};
+use crate::fields::{before, head, less_than, n, negated, positive, predicate, row, v, Field};
+use crate::rule::Term;
 use crate::run::{Run, LISTER_CELLS};
 
-/// Every run that cases 1 to 12 tell of, in their order.
+/// Every run that cases 1 to 12 tell of, in their order, then the roll-over
+/// under both comparisons.
 pub fn runs() -> Vec<Run> {
     let lister = [
         case_1(),
@@ -16,6 +18,8 @@ pub fn runs() -> Vec<Run> {
         case_10(),
         case_11(),
         case_12(),
+        roll_over(before),
+        roll_over(less_than),
     ];
     let mut runs: Vec<Run> = lister.into_iter().map(Run::of_lister).collect();
     runs.push(with_allowance(case_6(), 0));
@@ -162,6 +166,22 @@ pub fn case_12() -> Vec<u8> {
         predicate(1, true),
         negated(p, &[v(0)]),
         positive(q, &[v(0)]),
+    ]
+    .concat()
+}
+
+/// Case 2 at the moment when the counter starts again.
+pub fn roll_over(comparison: fn(Term, Term) -> Field) -> Vec<u8> {
+    let (event, h) = (0, 1);
+    [
+        predicate(2, true),
+        predicate(2, false),
+        row(event, &[1, 4_294_967_290]),
+        row(event, &[2, 5]),
+        head(h, &[v(0), v(2)]),
+        positive(event, &[v(0), v(1)]),
+        positive(event, &[v(2), v(3)]),
+        comparison(v(1), v(3)),
     ]
     .concat()
 }

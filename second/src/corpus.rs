@@ -1,6 +1,7 @@
 //! The corpus: every run that the document's sentences ask for, then random
 //! ones; and the fresh runs of a long comparison.
 
+use crate::fields::before;
 use crate::random::Random;
 use crate::run::Run;
 use crate::sweeps::Whole;
@@ -30,9 +31,10 @@ fn listed_jobs() -> Vec<Vec<u8>> {
     jobs.extend(limits::outside());
     jobs.extend(limits::lengths());
     jobs.extend(faults::jobs());
-    jobs.extend(shapes::less_thans());
+    jobs.extend(shapes::comparisons());
     jobs.push(shapes::more_than_fits());
     jobs.extend(damage::each_byte(&cases::case_2()));
+    jobs.extend(damage::each_byte(&cases::roll_over(before)));
     jobs
 }
 

@@ -4,7 +4,7 @@ use crate::fields::Field;
 use crate::random::Random;
 
 /// Values that stand close to the edges of tags, marks, signs and kinds.
-const EDGES: [u8; 10] = [0, 1, 2, 3, 4, 5, 6, 15, 16, 255];
+const EDGES: [u8; 11] = [0, 1, 2, 3, 4, 5, 6, 7, 15, 16, 255];
 
 pub fn damaged(random: &mut Random, mut fields: Vec<Field>) -> Vec<u8> {
     let to_fields = random.below(3);

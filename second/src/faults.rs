@@ -1,6 +1,6 @@
 //! Jobs with one or two faults in one field, to see which one wins.
 
-use crate::fields::{head, less_than, n, negated, positive, predicate, row, v, Field};
+use crate::fields::{before, head, less_than, n, negated, positive, predicate, row, v, Field};
 
 /// The ways in which each fault is made.
 const WAYS: usize = 4;
@@ -8,7 +8,7 @@ const WAYS: usize = 4;
 /// Every fault, and every pair of faults, that a field of each tag can have.
 pub fn jobs() -> Vec<Vec<u8>> {
     let mut jobs = Vec::new();
-    for tag in 1..=5 {
+    for tag in 1..=6 {
         for first in 2..=9 {
             for second in first..=9 {
                 if can_have(tag, first) && can_have(tag, second) {
@@ -98,7 +98,7 @@ impl Faulty {
             self.wrong_length(&mut field);
         }
         if self.has(3) {
-            field[0] = [0, 6, 128, 255][self.way];
+            field[0] = [0, 7, 128, 255][self.way];
         }
         field
     }
@@ -110,7 +110,8 @@ impl Faulty {
             3 => head(1, &[v(0), v(0)]),
             4 if self.has(9) || self.way < 2 => negated(1, &[v(0), v(0)]),
             4 => positive(1, &[v(0), v(0)]),
-            _ => less_than(v(0), v(0)),
+            5 => less_than(v(0), v(0)),
+            _ => before(v(0), v(0)),
         }
     }
 
@@ -183,6 +184,10 @@ fn rule_faults() -> Vec<Vec<u8>> {
         vec![less_than(v(0), n(7)), bound.clone()],
         vec![less_than(n(7), v(0)), bound.clone()],
         vec![less_than(n(7), n(8))],
+        vec![head(0, &[v(1)]), bound.clone(), before(n(3), v(1))],
+        vec![before(v(0), n(7)), bound.clone()],
+        vec![before(n(7), v(0)), bound.clone()],
+        vec![bound.clone(), before(v(0), n(7)), field_of_tag_7()],
         vec![negated(0, &[v(0)]), bound.clone()],
         vec![negated(0, &[n(4)])],
         vec![head(0, &[n(4)]), negated(0, &[n(5)])],
@@ -198,4 +203,11 @@ fn rule_faults() -> Vec<Vec<u8>> {
 
 fn field_of_tag_9() -> Field {
     vec![9, 0, 0]
+}
+
+/// Like a comparison in all but its tag.
+fn field_of_tag_7() -> Field {
+    let mut field = before(n(7), n(8));
+    field[0] = 7;
+    field
 }

@@ -45,6 +45,10 @@ pub fn less_than(left: Term, right: Term) -> Field {
     field(5, &term_bytes(&[left, right]))
 }
 
+pub fn before(left: Term, right: Term) -> Field {
+    field(6, &term_bytes(&[left, right]))
+}
+
 fn term_bytes(terms: &[Term]) -> Vec<u8> {
     let bytes = |term: &Term| {
         let (kind, number) = match *term {

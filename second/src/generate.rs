@@ -1,12 +1,12 @@
 //! Random sound jobs. Some choices are planted: rows are made from them, so
 //! that joins succeed.
 
-use crate::fields::{head, less_than, n, negated, positive, predicate, row, v, Field};
+use crate::fields::{before, head, less_than, n, negated, positive, predicate, row, v, Field};
 use crate::random::Random;
 use crate::rule::Term;
 use crate::variables::VARIABLES;
 
-const NUMBERS: [&[u32]; 8] = [
+const NUMBERS: [&[u32]; 9] = [
     &[0],
     &[0, 1],
     &[1, 2, 3],
@@ -15,6 +15,7 @@ const NUMBERS: [&[u32]; 8] = [
     &[9, 10, 100],
     &[0, 0x8000_0000, u32::MAX],
     &[0x7FFF_FFFF, 0x8000_0000, 0x0100_0000],
+    &[4_294_967_290, u32::MAX, 0, 5, 0x7FFF_FFFA],
 ];
 const ARITIES: [u8; 10] = [0, 1, 1, 1, 1, 2, 2, 2, 3, 4];
 const HEADS: [usize; 8] = [0, 0, 1, 1, 1, 2, 3, 4];
@@ -28,7 +29,7 @@ pub fn sound(random: &mut Random) -> Vec<Field> {
     let heads = maker.heads();
     let rows = maker.rows();
     if heads.is_empty() && body.is_empty() {
-        body.push(maker.less_than());
+        body.push(maker.comparison());
     }
     [predicates, rows, heads, body].concat()
 }
@@ -114,10 +115,10 @@ impl<'a> Maker<'a> {
 
     fn item(&mut self) -> Field {
         match self.random.below(10) {
-            _ if self.arities.is_empty() => self.less_than(),
+            _ if self.arities.is_empty() => self.comparison(),
             0..=7 => self.positive(),
             8 => self.negated(),
-            _ => self.less_than(),
+            _ => self.comparison(),
         }
     }
 
@@ -141,9 +142,13 @@ impl<'a> Maker<'a> {
         negated(predicate, &terms)
     }
 
-    fn less_than(&mut self) -> Field {
+    fn comparison(&mut self) -> Field {
         let sides = self.bound_terms(2);
-        less_than(sides[0], sides[1])
+        if self.random.one_in(2) {
+            less_than(sides[0], sides[1])
+        } else {
+            before(sides[0], sides[1])
+        }
     }
 
     fn heads(&mut self) -> Vec<Field> {

@@ -1,7 +1,7 @@
 //! From bytes to a refusal or the job: the sections "The job's fields" and
-//! "Refusals and their order".
+//! "Refusals and their order", with tag 6 of request 1/14.
 
-use crate::rule::{variables, Item, Job, Literal, Predicate, Term};
+use crate::rule::{variables, Comparison, Item, Job, Literal, Predicate, Term};
 use crate::variables::{Variables, VARIABLES};
 
 const LONGEST_JOB: usize = 32_768;
@@ -76,7 +76,7 @@ fn split(rest: &[u8]) -> Result<(u8, &[u8]), Fault> {
 fn group(tag: u8) -> Option<usize> {
     match tag {
         1..=3 => Some(usize::from(tag)),
-        4 | 5 => Some(4),
+        4..=6 => Some(4),
         _ => None,
     }
 }
@@ -109,7 +109,8 @@ impl Reading {
             2 => self.row(content),
             3 => self.head(place, content),
             4 => self.literal(content),
-            _ => self.less_than(content),
+            5 => self.compared(Comparison::LessThan, content),
+            _ => self.compared(Comparison::Before, content),
         }
     }
 
@@ -161,13 +162,13 @@ impl Reading {
         Ok(())
     }
 
-    fn less_than(&mut self, content: &[u8]) -> Result<(), Fault> {
+    fn compared(&mut self, comparison: Comparison, content: &[u8]) -> Result<(), Fault> {
         if content.len() != 2 * TERM_BYTES {
             return Err(Fault::WrongLength);
         }
         let sides = [term(&content[..TERM_BYTES])?, term(&content[TERM_BYTES..])?];
         self.bound_earlier(&sides)?;
-        self.job.body.push(Item::LessThan(sides));
+        self.job.body.push(Item::Compared(comparison, sides));
         Ok(())
     }
 

@@ -74,7 +74,7 @@ fn binds(job: &Job) -> Vec<Variables> {
     for item in &job.body {
         let held = match item {
             Item::Positive(_) => item.variables(),
-            Item::Negated(_) | Item::LessThan(_) => Variables::default(),
+            Item::Negated(_) | Item::Compared(..) => Variables::default(),
         };
         binds.push(held.without(bound));
         bound = bound.joined(held);

@@ -39,7 +39,7 @@ impl Values {
 pub fn row_count(job: &Job, item: &Item) -> usize {
     match item {
         Item::Positive(literal) => job.rows(literal).len(),
-        Item::Negated(_) | Item::LessThan(_) => 1,
+        Item::Negated(_) | Item::Compared(..) => 1,
     }
 }
 
@@ -55,8 +55,9 @@ pub fn lay(job: &Job, item: &Item, row: usize, values: &Values) -> Option<Values
                 .collect();
             (!job.rows(literal).contains(&filled)).then_some(*values)
         }
-        Item::LessThan([left, right]) => {
-            (values.term(*left) < values.term(*right)).then_some(*values)
+        Item::Compared(comparison, [left, right]) => {
+            let holds = comparison.holds(values.term(*left), values.term(*right));
+            holds.then_some(*values)
         }
     }
 }

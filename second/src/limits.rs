@@ -1,6 +1,8 @@
 //! The document's case 13: both sides of every limit.
 
-use crate::fields::{field, head, less_than, n, negated, positive, predicate, row, v, Field};
+use crate::fields::{
+    before, field, head, less_than, n, negated, positive, predicate, row, v, Field,
+};
 use crate::rule::Term;
 
 /// Jobs on the good side of a limit.
@@ -65,10 +67,11 @@ fn items(count: usize) -> Vec<u8> {
     fields.concat()
 }
 
-/// One positive literal, then less-thans: tags 4 and 5 share their limit.
+/// One positive literal, then comparisons: tags 4, 5 and 6 share their limit.
 fn mixed_items(count: usize) -> Vec<u8> {
     let mut fields = vec![predicate(1, true), positive(0, &[v(0)])];
-    fields.extend(vec![less_than(v(0), n(9)); count - 1]);
+    let comparisons = [less_than(v(0), n(9)), before(v(0), n(9))];
+    fields.extend(comparisons.into_iter().cycle().take(count - 1));
     fields.concat()
 }
 

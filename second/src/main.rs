@@ -1,5 +1,6 @@
 //! The independent second program: the grounder of one rule, written from the
-//! document "Rules and scope of the build" alone, to hold the proved one against.
+//! document "Rules and scope of the build" and the requests that have landed, to
+//! hold the proved one against.
 //!
 //! second list FILE                  the lister's lines for a job's raw bytes
 //! second run FILE ALLOWANCE CELLS   the same with that allowance and lent cells

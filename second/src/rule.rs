@@ -23,11 +23,32 @@ pub struct Literal {
     pub terms: Vec<Term>,
 }
 
+#[derive(Clone, Copy, Debug, PartialEq, Eq)]
+pub enum Comparison {
+    LessThan,
+    Before,
+}
+
+/// "Our millisecond counters start again at 0 after 4,294,967,295".
+const COUNTER: u64 = 4_294_967_296;
+
+impl Comparison {
+    pub fn holds(self, left: u32, right: u32) -> bool {
+        match self {
+            Comparison::LessThan => left < right,
+            Comparison::Before => {
+                let ahead = (COUNTER + u64::from(right) - u64::from(left)) % COUNTER;
+                (1..=2_147_483_647).contains(&ahead)
+            }
+        }
+    }
+}
+
 #[derive(Debug, PartialEq, Eq)]
 pub enum Item {
     Positive(Literal),
     Negated(Literal),
-    LessThan([Term; 2]),
+    Compared(Comparison, [Term; 2]),
 }
 
 #[derive(Debug, Default, PartialEq, Eq)]
@@ -49,7 +70,7 @@ impl Item {
     pub fn variables(&self) -> Variables {
         match self {
             Item::Positive(literal) | Item::Negated(literal) => variables(&literal.terms),
-            Item::LessThan(terms) => variables(terms),
+            Item::Compared(_, terms) => variables(terms),
         }
     }
 
@@ -57,7 +78,7 @@ impl Item {
     fn literal(&self) -> Option<&Literal> {
         match self {
             Item::Positive(literal) | Item::Negated(literal) => Some(literal),
-            Item::LessThan(_) => None,
+            Item::Compared(..) => None,
         }
     }
 }
@@ -71,7 +92,7 @@ impl Job {
     pub fn positives(&self) -> impl Iterator<Item = &Literal> {
         self.body.iter().filter_map(|item| match item {
             Item::Positive(literal) => Some(literal),
-            Item::Negated(_) | Item::LessThan(_) => None,
+            Item::Negated(_) | Item::Compared(..) => None,
         })
     }
 

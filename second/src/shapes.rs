@@ -1,8 +1,20 @@
 //! Sound jobs made by hand, one for each thing that a walk may meet.
 
-use crate::fields::{head, less_than, n, negated, positive, predicate, row, v, Field};
+use crate::fields::{before, head, less_than, n, negated, positive, predicate, row, v, Field};
 
-const NUMBERS: [u32; 8] = [0, 1, 9, 10, 0x7FFF_FFFF, 0x8000_0000, 0x8000_0001, u32::MAX];
+const NUMBERS: [u32; 11] = [
+    0,
+    1,
+    5,
+    9,
+    10,
+    0x7FFF_FFFE,
+    0x7FFF_FFFF,
+    0x8000_0000,
+    0x8000_0001,
+    4_294_967_290,
+    u32::MAX,
+];
 
 pub fn jobs() -> Vec<Vec<u8>> {
     let shapes = [
@@ -11,6 +23,7 @@ pub fn jobs() -> Vec<Vec<u8>> {
         arity_0(false),
         repeated_variables(),
         numbers_in_rows(),
+        counters_in_rows(),
         unsolved_predicates(),
         unsolved_negated_predicate(),
         constraint_over_unsolved(),
@@ -24,11 +37,16 @@ pub fn jobs() -> Vec<Vec<u8>> {
     shapes.map(|fields| fields.concat()).to_vec()
 }
 
-/// Less-thans of every two of the numbers where an order may go wrong.
-pub fn less_thans() -> Vec<Vec<u8>> {
-    let pair = |left, right| less_than(n(left), n(right));
-    let rights = |left| NUMBERS.map(|right| pair(left, right));
-    NUMBERS.into_iter().flat_map(rights).collect()
+/// Comparisons of every two of the numbers where an order may go wrong.
+pub fn comparisons() -> Vec<Vec<u8>> {
+    let mut jobs = Vec::new();
+    for left in NUMBERS {
+        for right in NUMBERS {
+            jobs.push(less_than(n(left), n(right)));
+            jobs.push(before(n(left), n(right)));
+        }
+    }
+    jobs
 }
 
 /// More instances than the lister's cells can hold.
@@ -89,6 +107,19 @@ fn numbers_in_rows() -> Vec<Field> {
     fields.push(head(1, &[v(0), v(1)]));
     fields.extend([positive(0, &[v(0)]), positive(0, &[v(1)])]);
     fields.extend([less_than(v(0), v(1)), less_than(n(9), v(1))]);
+    fields
+}
+
+/// A stop at the moment when the counter starts again: each event with each
+/// that it is before, and is less than too.
+fn counters_in_rows() -> Vec<Field> {
+    let times = [4_294_967_290, u32::MAX, 0, 5, 0x7FFF_FFFA];
+    let mut fields = vec![predicate(1, true), predicate(2, false)];
+    fields.extend(times.map(|time| row(0, &[time])));
+    fields.push(head(1, &[v(0), v(1)]));
+    fields.extend([positive(0, &[v(0)]), positive(0, &[v(1)])]);
+    fields.extend([before(v(0), v(1)), positive(0, &[v(2)])]);
+    fields.extend([before(v(2), v(1)), less_than(v(2), v(0))]);
     fields
 }
 

@@ -1,6 +1,8 @@
-//! The document's cases 1 to 13 with the numbers it gives.
+//! The document's cases 1 to 13 with the numbers it gives, and those of request
+//! 1/14.
 
 use crate::cases::*;
+use crate::fields::{before, less_than, n};
 use crate::job::read;
 use crate::run::Run;
 use crate::{limits, meaning, plain, witnesses};
@@ -115,6 +117,43 @@ fn case_13_around_the_longest_length() {
 }
 
 #[test]
+fn request_1_across_the_roll_over() {
+    let right_way = "vars 0 2\n5 1 2 0 1\ncomplete 1 10\n";
+    assert_eq!(listed(roll_over(before)), right_way);
+    let wrong_way = "vars 0 2\n8 2 1 1 0\ncomplete 1 10\n";
+    assert_eq!(listed(roll_over(less_than)), wrong_way);
+    assert_eq!(plain_count(&roll_over(before)), 10);
+    assert_eq!(plain_count(&roll_over(less_than)), 10);
+}
+
+#[test]
+fn request_1_distances() {
+    let pairs = [
+        (0, 2_147_483_647, true),
+        (4_294_967_295, 2_147_483_646, true),
+        (2_147_483_647, 0, false),
+        (0, 2_147_483_648, false),
+        (2_147_483_648, 0, false),
+        (4_294_967_295, 4_294_967_295, false),
+        (4_294_967_295, 0, true),
+        (0, 4_294_967_295, false),
+    ];
+    for (left, right, holds) in pairs {
+        let entries = if holds { "1\ncomplete 1" } else { "complete 0" };
+        let job = before(n(left), n(right));
+        assert_eq!(plain_count(&job), 1);
+        assert_eq!(listed(job), format!("vars\n{entries} 1\n"));
+    }
+}
+
+#[test]
+fn request_1_tag_7_is_refused() {
+    let mut job = before(n(0), n(1));
+    job[0] = 7;
+    assert_eq!(listed(job), "refused 3 0\n");
+}
+
+#[test]
 fn plain_counts_that_the_document_does_not_give() {
     let jobs = [
         (case_2(), 10),
@@ -162,6 +201,8 @@ fn accepted_cases_have_the_meaning_s_list() {
         case_7(),
         case_10(),
         case_11(),
+        roll_over(before),
+        roll_over(less_than),
     ];
     for bytes in jobs {
         let job = read(&bytes).expect("the case is accepted");

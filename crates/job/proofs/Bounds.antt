@@ -11,14 +11,14 @@ use lib.Dec.{ltb, leb, eqb}
 use lib.ListN.{length, getD, set, length-set}
 use lib.Seq.{getD-set-same, getD-set-other}
 use Rattle.meaning.specs.Basics.{tab, any, in?}
-use Rattle.meaning.specs.Job.{arityLimit, variableLimit, Term, number, variable, Test, negated, Item, positive, test, varsOf, unbound, holds}
+use Rattle.meaning.specs.Job.{arityLimit, variableLimit, Term, number, variable, Comparison, Test, negated, Item, positive, test, varsOf, unbound, holds}
 use Rattle.meaning.proofs.Tab.{any-append, or-true, or-false, or-assoc, search-none, search-more, search-hit, any-hit}
 use Rattle.rule.specs.declared.Term.{Term as TermR}
 use Rattle.rule.specs.declared.Item.{Item as ItemR}
-use Rattle.rule.specs.Rule.{termOf, termAt as termAtR, termsOf, itemOf}
+use Rattle.rule.specs.Rule.{termOf, termAt as termAtR, termsOf, kindOf, itemOf}
 use Rattle.job.specs.Bound.{isBound, Bound, freeTerm, free, markOne, marked}
-use Rattle.meaning.specs.Reading.{byteAt, Tag, predicateTag, rowTag, headTag, literalTag, lessThanTag, tagOf, be32, badTerm, termAt, termsAt, termPlaces, outOfRange, literalIn, unboundTest, unboundIn}
-use Rattle.job.specs.Progress.{literalFrom, lessThanFrom}
+use Rattle.meaning.specs.Reading.{byteAt, Tag, predicateTag, rowTag, headTag, literalTag, comparisonTag, tagOf, be32, badTerm, termAt, termsAt, termPlaces, outOfRange, literalIn, unboundTest, unboundIn}
+use Rattle.job.specs.Progress.{literalFrom, comparisonFrom}
 use Rattle.job.proofs.TermLaws.{term-var, term-num, terms-are, literal-is}
 
 -- a term
@@ -131,10 +131,10 @@ module _ (s : List ℕ) (at n k : ℕ) (b : List Bool) (items : List Item) (h : 
       ∙ free-is b items (termsAt s (at + 5) n) h
       ∙ rw (← q, ne-eqb _ _ z, literalIn) refl
 
-  pub less-than-bound : (x : ItemR) (r : Bool) → x ≡ lessThanFrom s at → r ≡ free b (termsOf x) → r ≡ unboundIn lessThanTag s at n items
-  unfolding unboundIn unboundTest lessThanFrom
-  less-than-bound x r e f =
-      f ∙ ap (λ (y : ItemR). free b (termsOf y)) e ∙ ap (free b) (terms-are s 2 0 (at + 3) 2 (omega arith)) ∙ free-is b items (termsAt s (at + 3) 2) h
+  pub comparison-bound : (c : Comparison) (x : ItemR) (r : Bool) → x ≡ comparisonFrom c s at → r ≡ free b (termsOf x) → r ≡ unboundIn (comparisonTag c) s at n items
+  unfolding unboundIn unboundTest comparisonFrom
+  comparison-bound c x r e f =
+      f ∙ ap (λ (y : ItemR). free b (termsOf y)) e ∙ ap (free b) (terms-are s (kindOf c) 0 (at + 3) 2 (omega arith)) ∙ free-is b items (termsAt s (at + 3) 2) h
 
 module _ (t : ℕ) (s : List ℕ) (at n : ℕ) (items : List Item) where
   pub unbound-1 : tagOf t ≡ predicateTag → false ≡ unboundIn (tagOf t) s at n items

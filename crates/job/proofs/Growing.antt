@@ -11,18 +11,18 @@ use lib.Dec.{eqb}
 use lib.ListN.{length, getD, set, length-set}
 use lib.Seq.{getD-set-same, getD-set-other}
 use Rattle.meaning.specs.Basics.{tab, any}
-use Rattle.meaning.specs.Job.{predicateLimit, rowLimit, headLimit, itemLimit, arityLimit, variableLimit, Item, Head, holds}
-use Rattle.meaning.specs.Reading.{byteAt, Tag, predicateTag, rowTag, headTag, literalTag, lessThanTag, tagAt, tagOf, lineOf, placesAt, rowIn, headIn, literalIn, lessThanIn, Read, added, placed, after}
+use Rattle.meaning.specs.Job.{predicateLimit, rowLimit, headLimit, itemLimit, arityLimit, variableLimit, Comparison, Item, Head, holds}
+use Rattle.meaning.specs.Reading.{byteAt, Tag, predicateTag, rowTag, headTag, literalTag, comparisonTag, tagAt, tagOf, lineOf, placesAt, rowIn, headIn, literalIn, comparisonIn, Read, added, placed, after}
 use Rattle.meaning.proofs.Tab.{getD-tab, tab-ext, tab-grow, tab-set}
 use Rattle.rule.specs.declared.Item.{Item as ItemR}
 use Rattle.rule.specs.Rule.{termsOf, noItem, itemOf, itemAt, bodyOf, headOf, headAt, headsOf, solvedOf}
 use Rattle.job.specs.Puts.{puts}
 use Rattle.job.specs.Bound.{Bound, marked}
-use Rattle.job.specs.Progress.{cellFrom, headFrom, lessThanFrom, rowOf, aritiesOf, tablesOf, placesOf, readOf, Well, Filled}
-use Rattle.job.specs.Grow.{withPredicate, RowReady, withRow, withCells, withIndex, withHead, withItem, literalOf, withLiteral, withLessThan}
+use Rattle.job.specs.Progress.{cellFrom, headFrom, comparisonFrom, rowOf, aritiesOf, tablesOf, placesOf, readOf, Well, Filled}
+use Rattle.job.specs.Grow.{withPredicate, RowReady, withRow, withCells, withIndex, withHead, withItem, literalOf, withLiteral, withComparison}
 use Rattle.job.specs.declared.progress.Progress.{Progress}
 use Rattle.job.proofs.Puts.{length-puts, getD-puts-in, getD-puts-out}
-use Rattle.job.proofs.TermLaws.{head-is, literal-is, less-than-is}
+use Rattle.job.proofs.TermLaws.{head-is, literal-is, comparison-is}
 use Rattle.job.proofs.Sums.{sum-grow, sum-set, sum-part, grow-min}
 
 -- what `grow_literal` makes
@@ -310,11 +310,11 @@ after-4 : (s : List ℕ) (at : ℕ) (st : Read) → tagOf (tagAt s at) ≡ liter
 unfolding after added placed
 after-4 s at st e = rw e refl
 
-after-5 : (s : List ℕ) (at : ℕ) (st : Read) → tagOf (tagAt s at) ≡ lessThanTag
+after-rest : (k : Comparison) (s : List ℕ) (at : ℕ) (st : Read) → tagOf (tagAt s at) ≡ comparisonTag k
     → after s at st
-    ≡ readWith 4 (st .places) (st .job .arities) (st .job .rows) (st .job .rule .solved) (st .job .rule .heads) (st .job .rule .body ++ (lessThanIn s at ∷ []))
+    ≡ readWith 4 (st .places) (st .job .arities) (st .job .rows) (st .job .rule .solved) (st .job .rule .heads) (st .job .rule .body ++ (comparisonIn k s at ∷ []))
 unfolding after added placed
-after-5 s at st e = rw e refl
+after-rest k s at st e = rw e refl
 
 module _ (group : ℕ) (x : ItemR) (p : Progress) (b : List Bool) (z : Sizes p) (w : Well p) (room : p .rule .size < itemLimit) (cells index : List ℕ) where
   abbrev n₄ : ℕ
@@ -353,9 +353,9 @@ module _ (group : ℕ) (x : ItemR) (p : Progress) (b : List Bool) (z : Sizes p) 
   item-filled f = record { cells-length = f .cells-length; index-length = f .index-length; inside = f .inside }
 
 module _ (s : List ℕ) (at group : ℕ) (p : Progress) (z : Sizes p) (w : Well p) (room : p .rule .size < itemLimit) (cells index : List ℕ) where
-  pub less-than-read : tagOf (tagAt s at) ≡ lessThanTag → group ≡ 4 → readOf (withLessThan s at group p) cells index ≡ after s at (readOf p cells index)
-  less-than-read e g =
-      item-read group (lessThanFrom s at) p (p .bound) z w room cells index _ (lessThanIn s at) (sym (less-than-is s at)) g (after-5 s at (readOf p cells index) e)
+  pub comparison-read : (k : Comparison) → tagOf (tagAt s at) ≡ comparisonTag k → group ≡ 4 → readOf (withComparison k s at group p) cells index ≡ after s at (readOf p cells index)
+  comparison-read k e g =
+      item-read group (comparisonFrom k s at) p (p .bound) z w room cells index _ (comparisonIn k s at) (sym (comparison-is k s at)) g (after-rest k s at (readOf p cells index) e)
 
   pub literal-read : (b : List Bool) → byteAt s (at + 4) < p .rule .predicates → tagOf (tagAt s at) ≡ literalTag → group ≡ 4
       → readOf (withItem group (literalOf s at p) p b) cells index ≡ after s at (readOf p cells index)

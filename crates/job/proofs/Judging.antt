@@ -11,7 +11,7 @@ use borrow.Author.Tests.{lt-ltb, le-ltb, le-leb, lt-leb, eq-eqb, ne-eqb}
 use lib.Dec.{ltb, leb, eqb}
 use lib.ListN.{length, getD, length-append}
 use Rattle.meaning.specs.Basics.{tab}
-use Rattle.meaning.specs.Reading.{Tag, predicateTag, rowTag, headTag, literalTag, lessThanTag, byteAt, tagAt, lengthAt, tagOf, lineOf, predicateAt, placesAt, outOfRange, unboundIn, counted, refusals, first}
+use Rattle.meaning.specs.Reading.{Tag, predicateTag, rowTag, headTag, literalTag, comparisonTag, byteAt, tagAt, lengthAt, tagOf, lineOf, predicateAt, placesAt, outOfRange, unboundIn, counted, refusals, first}
 use Rattle.meaning.proofs.Tab.{length-tab, getD-tab}
 use Rattle.rule.specs.Rule.{bodyOf, headsOf, itemAt, headAt}
 use Rattle.reader.specs.Frame.{frameAt}
@@ -19,7 +19,7 @@ use Rattle.reader.specs.declared.Frame.{Frame}
 use Rattle.reader.specs.declared.Frame.the-variants.{Cut, Field}
 use Rattle.job.specs.Progress.{farthest, countOf, aritiesOf, tablesOf, rowOf, jobWith, sum, Well}
 use Rattle.job.specs.declared.table.Line.{Line}
-use Rattle.job.specs.Table.{LineIs, exactOf, placesIn, undeclared, PlacesAre}
+use Rattle.job.specs.Table.{lastTag, LineIs, exactOf, placesIn, undeclared, PlacesAre}
 use Rattle.job.specs.Fault.{Judges, FieldAt}
 use Rattle.job.specs.declared.progress.Progress.{Progress}
 use Rattle.job.specs.declared.fault.Fault.the-variants.{Cut as CutF, Tag as TagF, Group, Limit, Undeclared, Length, Range, Unbound}
@@ -61,7 +61,7 @@ module _ (p : Progress) (w : Well p) (cells index : List ℕ) where
   count-is rowTag = sym (flatten-tab (p .rule .predicates) (λ (q : ℕ). getD (p .rows) q 0) (λ (q : ℕ). rowOf (getD (p .arities) q 0) cells index q) ∙ w .sums)
   count-is headTag = sym (length-tab (headAt (p .rule)) (min (p .rule .many) headLimit) ∙ min-eq-left (w .heads))
   count-is literalTag = sym (length-tab (itemAt (p .rule)) (min (p .rule .size) itemLimit) ∙ min-eq-left (w .items))
-  count-is lessThanTag = sym (length-tab (itemAt (p .rule)) (min (p .rule .size) itemLimit) ∙ min-eq-left (w .items))
+  count-is (comparisonTag k) = sym (length-tab (itemAt (p .rule)) (min (p .rule .size) itemLimit) ∙ min-eq-left (w .items))
 
 -- the field's tag and length
 
@@ -183,12 +183,12 @@ module _ (s : List ℕ) (at tag len : ℕ) (p : Progress) (f : FieldAt s at tag 
   tag-zero h cells index = here 3 _ _ (rw (← f .tag-is, lt-ltb _ _ h) refl)
 
   module _ (some : 1 ≤ tag) where
-    pub tag-large : 5 < tag → Judges (Faulty TagF) s at p 1
+    pub tag-large : lastTag < tag → Judges (Faulty TagF) s at p 1
     unfolding Judges refusals
     tag-large h cells index = here 3 _ _ (rw (← f .tag-is, le-ltb _ _ some, lt-ltb _ _ h) refl)
 
-    module _ (known : tag ≤ 5) where
-      tag-known : (ltb (tagAt s at) 1 || ltb 5 (tagAt s at)) ≡ false
+    module _ (known : tag ≤ lastTag) where
+      tag-known : (ltb (tagAt s at) 1 || ltb lastTag (tagAt s at)) ≡ false
       tag-known = rw (← f .tag-is, le-ltb _ _ some, le-ltb _ _ known) refl
 
       pub tag-group : lineOf (tagOf tag) .group < p .group → Judges (Faulty Group) s at p 1

@@ -8,21 +8,21 @@ use native.Mathlib.Omega.{arith}
 use borrow.Author.Tests.{ltb-false, leb-false, lt-ltb}
 use lib.Dec.{ltb, leb, eqb}
 use lib.ListN.{length, getD}
-use Rattle.meaning.specs.Reading.{byteAt, Tag, predicateTag, rowTag, headTag, literalTag, lessThanTag, tagAt, lengthAt, tagOf, tags, lineOf, predicateAt, placesAt, outOfRange, counted, refusals, first, termsAt}
+use Rattle.meaning.specs.Reading.{byteAt, Tag, predicateTag, rowTag, headTag, literalTag, comparisonTag, tagAt, lengthAt, tagOf, tags, lineOf, predicateAt, placesAt, outOfRange, counted, refusals, first, termsAt}
 use Rattle.meaning.proofs.Tab.{length-tab}
 use Rattle.rule.specs.Rule.{bodyOf}
-use Rattle.meaning.specs.Job.{predicateLimit, rowLimit, headLimit, itemLimit, arityLimit, lessThan}
+use Rattle.meaning.specs.Job.{predicateLimit, rowLimit, headLimit, itemLimit, arityLimit, Comparison, comparison}
 use Rattle.job.specs.declared.table.Line.{Line}
-use Rattle.job.specs.Progress.{farthest, lessThanFrom, countOf, aritiesOf, jobWith, Well, Filled}
+use Rattle.job.specs.Progress.{farthest, comparisonFrom, countOf, aritiesOf, jobWith, Well, Filled}
 use Rattle.job.specs.Table.{LineIs, placesIn}
 use Rattle.job.specs.Fault.{Judges}
-use Rattle.job.specs.Grow.{Named, RowReady, RowAdded, Sound, Ready, Stepped, withPredicate, withHead, literalOf, withLiteral, withLessThan, nextRecord, nextCells, nextIndex}
+use Rattle.job.specs.Grow.{Named, RowReady, RowAdded, Sound, Ready, Stepped, withPredicate, withHead, literalOf, withLiteral, withComparison, nextRecord, nextCells, nextIndex}
 use Rattle.job.specs.declared.progress.Progress.{Progress}
 use Rattle.job.specs.declared.fault.Judged.the-variants.{Fine}
 use Rattle.job.proofs.Judging.{count-is}
 use Rattle.job.proofs.Bounds.{or-left, or-right, bound-test, bound-literal}
-use Rattle.job.proofs.TermLaws.{less-than-is}
-use Rattle.job.proofs.Growing.{Sizes, rows-few, places-is, predicate-read, predicate-well, predicate-filled, row-read, row-well, row-filled, head-read, head-well, head-filled, item-well, item-filled, literal-read, less-than-read}
+use Rattle.job.proofs.TermLaws.{comparison-is}
+use Rattle.job.proofs.Growing.{Sizes, rows-few, places-is, predicate-read, predicate-well, predicate-filled, row-read, row-well, row-filled, head-read, head-well, head-filled, item-well, item-filled, literal-read, comparison-read}
 
 clash : {A : Type 0} (n : ℕ) → none ≡ some n → A
 clash n e = let z : _≡_ {A = ℕ} 0 1 = cc in absurd (omega arith)
@@ -101,9 +101,9 @@ module _ (s : List ℕ) (at : ℕ) (p : Progress) (h : Ready s at p) where
   unfolding countOf
   ready-4 e = (named literalTag e (at + 4) (omega arith) (omega arith), room literalTag e)
 
-  pub ready-5 : tagOf (tagAt s at) ≡ lessThanTag → (at + 128 < farthest) × (p .rule .size < itemLimit)
+  pub ready-rest : (k : Comparison) → tagOf (tagAt s at) ≡ comparisonTag k → (at + 128 < farthest) × (p .rule .size < itemLimit)
   unfolding countOf
-  ready-5 e = (h .near, room lessThanTag e)
+  ready-rest k e = (h .near, room (comparisonTag k) e)
 
   module _ (group : ℕ) (r : Progress) (cells index : List ℕ) (f : Filled p cells index) where
     pub step-2 : (cells′ index′ : List ℕ) → tagOf (tagAt s at) ≡ rowTag → group ≡ 2 → RowAdded s at group p r cells index cells′ index′ → Stepped s at p r cells index cells′ index′
@@ -169,19 +169,19 @@ module _ (s : List ℕ) (at : ℕ) (p : Progress) (h : Ready s at p) where
           filled = item-filled group (literalOf s at p) p _ z (h .well) m cells index f;
         })
 
-    pub step-5 : tagOf (tagAt s at) ≡ lessThanTag → group ≡ 4 → r ≡ withLessThan s at group p → Stepped s at p r cells index cells index
+    pub step-rest : (k : Comparison) → tagOf (tagAt s at) ≡ comparisonTag k → group ≡ 4 → r ≡ withComparison k s at group p → Stepped s at p r cells index cells index
     unfolding nextRecord nextCells nextIndex
-    step-5 e g q =
-        let m = ready-5 e .1 in
+    step-rest k e g q =
+        let m = ready-rest k e .1 in
         rw q
         (record {
-          read = less-than-read s at group p z (h .well) m cells index e g;
+          read = comparison-read s at group p z (h .well) m cells index k e g;
           record-is = rw (e, g) refl;
           cells-are = rw e refl;
           index-is = rw e refl;
-          well = item-well group (lessThanFrom s at) p (p .bound) z (h .well) m cells index
-              (rw (less-than-is s at) (bound-test (p .bound) (bodyOf (p .rule)) (h .well .bound) lessThan (termsAt s (at + 3) 2)));
-          filled = item-filled group (lessThanFrom s at) p (p .bound) z (h .well) m cells index f;
+          well = item-well group (comparisonFrom k s at) p (p .bound) z (h .well) m cells index
+              (rw (comparison-is k s at) (bound-test (p .bound) (bodyOf (p .rule)) (h .well .bound) (comparison k) (termsAt s (at + 3) 2)));
+          filled = item-filled group (comparisonFrom k s at) p (p .bound) z (h .well) m cells index f;
         })
 
 -- the sizes of what `grow_row` stores, at the predicate that it read

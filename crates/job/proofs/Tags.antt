@@ -1,13 +1,14 @@
 -- The tags by their numbers.
-use Rattle.meaning.specs.Job.{predicateLimit, rowLimit, headLimit, itemLimit, arityLimit}
+use Rattle.meaning.specs.Job.{predicateLimit, rowLimit, headLimit, itemLimit, arityLimit, lessThan, before}
 use Prim.Native.Nat.{ℕ, zero, suc, _+_, _*_, _-_, _≤_}
-use mathlib.Core.Path.{_≡_, refl, sym, ap}
+use mathlib.Core.Path.{_≡_, refl, sym, ap, _∙_}
 use native.Mathlib.Omega.{arith}
 use mathlib.Core.List.{List, [], _∷_}
 use lib.ListN.{getD}
-use Rattle.meaning.specs.Reading.{Tag, predicateTag, rowTag, headTag, literalTag, lessThanTag, tags, tagOf, lineOf}
+use borrow.Author.Tests.{eq-eqb, ne-eqb}
+use Rattle.meaning.specs.Reading.{Tag, predicateTag, rowTag, headTag, literalTag, comparisonTag, tags, tagOf, lineOf}
 use Rattle.job.specs.Progress.{countOf}
-use Rattle.job.specs.Table.{LineIs}
+use Rattle.job.specs.Table.{lastTag, comparisonAt, LineIs}
 use Rattle.job.specs.declared.table.Line.{Line}
 use Rattle.job.specs.declared.progress.Progress.{Progress}
 
@@ -23,17 +24,30 @@ tag-3 t e = rw e
 pub tag-4 : (t : ℕ) → t ≡ 4 → tagOf t ≡ literalTag
 tag-4 t e = rw e
 
-past : (t : ℕ) → suc (suc (suc (suc (suc (suc t))))) - 1 ≡ suc (suc (suc (suc (suc t))))
+-- the comparisons by their tags
+
+module _ (t : ℕ) where
+  pub at-less-than : t ≡ 5 → lessThan ≡ comparisonAt t
+  unfolding comparisonAt
+  at-less-than e = rw (eq-eqb t 5 e, comparisonAt) refl
+
+  pub at-before : (t ≡ 5 → ⊥) → before ≡ comparisonAt t
+  unfolding comparisonAt
+  at-before e = rw (ne-eqb t 5 e, comparisonAt) refl
+
+past : (t : ℕ) → suc (suc (suc (suc (suc (suc (suc t)))))) - 1 ≡ suc (suc (suc (suc (suc (suc t)))))
 past t = omega arith
 
-pub tag-5 : (t : ℕ) → 1 ≤ t → (t ≡ 1 → ⊥) → (t ≡ 2 → ⊥) → (t ≡ 3 → ⊥) → (t ≡ 4 → ⊥) → tagOf t ≡ lessThanTag
-tag-5 zero l a b c d = absurd (omega arith)
-tag-5 (suc zero) l a b c d = absurd (a refl)
-tag-5 (suc (suc zero)) l a b c d = absurd (b refl)
-tag-5 (suc (suc (suc zero))) l a b c d = absurd (c refl)
-tag-5 (suc (suc (suc (suc zero)))) l a b c d = absurd (d refl)
-tag-5 (suc (suc (suc (suc (suc zero))))) l a b c d = refl
-tag-5 (suc (suc (suc (suc (suc (suc t)))))) l a b c d = ap (λ (i : ℕ). getD tags i lessThanTag) (past t)
+pub tag-rest : (t : ℕ) → 1 ≤ t → (t ≡ 1 → ⊥) → (t ≡ 2 → ⊥) → (t ≡ 3 → ⊥) → (t ≡ 4 → ⊥) → tagOf t ≡ comparisonTag (comparisonAt t)
+unfolding comparisonAt
+tag-rest zero l a b c d = absurd (omega arith)
+tag-rest (suc zero) l a b c d = absurd (a refl)
+tag-rest (suc (suc zero)) l a b c d = absurd (b refl)
+tag-rest (suc (suc (suc zero))) l a b c d = absurd (c refl)
+tag-rest (suc (suc (suc (suc zero)))) l a b c d = absurd (d refl)
+tag-rest (suc (suc (suc (suc (suc zero))))) l a b c d = refl
+tag-rest (suc (suc (suc (suc (suc (suc zero)))))) l a b c d = refl
+tag-rest (suc (suc (suc (suc (suc (suc (suc t))))))) l a b c d = ap (λ (i : ℕ). getD tags i (comparisonTag before)) (past t) ∙ ap comparisonTag (at-before (suc (suc (suc (suc (suc (suc (suc t))))))) (λ e. omega arith))
 
 module _ (t : ℕ) (p : Progress) where
   pub count-1 : t ≡ 1 → p .rule .predicates ≡ countOf (tagOf t) p
@@ -56,7 +70,8 @@ count-rest (suc (suc zero)) p l a b c = absurd (b refl)
 count-rest (suc (suc (suc zero))) p l a b c = absurd (c refl)
 count-rest (suc (suc (suc (suc zero)))) p l a b c = refl
 count-rest (suc (suc (suc (suc (suc zero))))) p l a b c = refl
-count-rest (suc (suc (suc (suc (suc (suc t)))))) p l a b c = ap (λ (i : ℕ). countOf (getD tags i lessThanTag) p) (sym (past t))
+count-rest (suc (suc (suc (suc (suc (suc zero)))))) p l a b c = refl
+count-rest (suc (suc (suc (suc (suc (suc (suc t))))))) p l a b c = ap (λ (i : ℕ). countOf (getD tags i (comparisonTag before)) p) (sym (past t))
 
 -- the table in the code, and that of the meaning
 
@@ -68,6 +83,7 @@ fields =
     ∷ (3 ∷ headLimit ∷ 1 ∷ 1 ∷ 5 ∷ [])
     ∷ (4 ∷ itemLimit ∷ 2 ∷ 2 ∷ 5 ∷ [])
     ∷ (4 ∷ itemLimit ∷ 10 ∷ 0 ∷ 0 ∷ [])
+    ∷ (4 ∷ itemLimit ∷ 10 ∷ 0 ∷ 0 ∷ [])
     ∷ []
 
 abbrev column : ℕ → ℕ → ℕ
@@ -76,21 +92,22 @@ column t k = getD (getD fields t []) k 0
 abbrev row : ℕ → Line
 row t = record { group = column t 0; limit = column t 1; smallest = column t 2; upto = column t 3; each = column t 4 }
 
-pub line-is : (t : ℕ) → 1 ≤ t → t ≤ 5 → LineIs (row t) (lineOf (tagOf t))
+pub line-is : (t : ℕ) → 1 ≤ t → t ≤ lastTag → LineIs (row t) (lineOf (tagOf t))
 line-is zero l h = absurd (omega arith)
 line-is (suc zero) l h = record { group = refl; limit = refl; smallest = refl; upTo = refl; each = refl }
 line-is (suc (suc zero)) l h = record { group = refl; limit = refl; smallest = refl; upTo = refl; each = refl }
 line-is (suc (suc (suc zero))) l h = record { group = refl; limit = refl; smallest = refl; upTo = refl; each = refl }
 line-is (suc (suc (suc (suc zero)))) l h = record { group = refl; limit = refl; smallest = refl; upTo = refl; each = refl }
 line-is (suc (suc (suc (suc (suc zero))))) l h = record { group = refl; limit = refl; smallest = refl; upTo = refl; each = refl }
-line-is (suc (suc (suc (suc (suc (suc t)))))) l h = absurd (omega arith)
+line-is (suc (suc (suc (suc (suc (suc zero)))))) l h = record { group = refl; limit = refl; smallest = refl; upTo = refl; each = refl }
+line-is (suc (suc (suc (suc (suc (suc (suc t))))))) l h = absurd (omega arith)
 
 pub exact-small : (t : Tag) (n : ℕ) → n ≤ arityLimit → (lineOf t .smallest + lineOf t .each * n ≤ 30) × (lineOf t .upTo ≤ 2)
 exact-small predicateTag n h = (omega arith, omega arith)
 exact-small rowTag n h = (omega arith, omega arith)
 exact-small headTag n h = (omega arith, omega arith)
 exact-small literalTag n h = (omega arith, omega arith)
-exact-small lessThanTag n h = (omega arith, omega arith)
+exact-small (comparisonTag k) n h = (omega arith, omega arith)
 
 pub exact-fits : (r : Line) (t n : ℕ) → LineIs r (lineOf (tagOf t)) → n ≤ arityLimit
     → (r .each * n ≤ 30) × (r .smallest + r .each * n ≤ 30) × (r .smallest + r .each * n ≡ lineOf (tagOf t) .smallest + lineOf (tagOf t) .each * n)

@@ -9,13 +9,14 @@ use borrow.Author.Tests.{lt-ltb, le-ltb, ne-eqb}
 use lib.Dec.{ltb, leb, eqb}
 use lib.ListN.{length, getD, replicate, List·getD-eq-default}
 use Rattle.meaning.specs.Basics.{any}
-use Rattle.meaning.specs.Job.{arityLimit, variableLimit, number, variable, lessThan, negated, positive, test}
-use Rattle.meaning.specs.Reading.{byteAt, be32, badTerm, termAt, termsAt, termPlaces, literalIn, lessThanIn, headIn, outOfRange, tagOf, predicateTag, rowTag, headTag, literalTag, lessThanTag}
+use Rattle.meaning.specs.Job.{arityLimit, variableLimit, number, variable, Comparison, negated, comparison, positive, test}
+use Rattle.meaning.specs.Reading.{byteAt, be32, badTerm, termAt, termsAt, termPlaces, literalIn, comparisonIn, headIn, outOfRange, tagOf, predicateTag, rowTag, headTag, literalTag, comparisonTag}
 use Rattle.meaning.proofs.Tab.{tab-ext}
 use Rattle.rule.specs.declared.Term.{Term as TermR}
 use Rattle.rule.specs.declared.Item.{Item as ItemR}
-use Rattle.rule.specs.Rule.{noTerm, termOf, termsOf, testOf, itemOf, headOf}
-use Rattle.job.specs.Progress.{termFrom, termsFrom, itemFrom, headFrom, literalFrom, lessThanFrom}
+use Rattle.rule.specs.Rule.{noTerm, termOf, termsOf, kindOf, testOf, itemOf, headOf}
+use Rattle.rule.proofs.Items.{comparison-item}
+use Rattle.job.specs.Progress.{termFrom, termsFrom, itemFrom, headFrom, literalFrom, comparisonFrom}
 use Rattle.job.proofs.Puts.{getD-puts-in}
 
 pub past : (s : List ℕ) (i : ℕ) → length s ≤ i → 0 ≡ byteAt s i
@@ -78,9 +79,9 @@ literal-is s at n h = go (eqb (byteAt s (at + 3)) 0)
     go true = ap (positive (byteAt s (at + 4))) (terms-are s 0 (byteAt s (at + 4)) (at + 5) n h)
     go false = ap (test (negated (byteAt s (at + 4)))) (terms-are s 1 (byteAt s (at + 4)) (at + 5) n h)
 
-pub less-than-is : (s : List ℕ) (at : ℕ) → itemOf (lessThanFrom s at) ≡ lessThanIn s at
-unfolding lessThanFrom itemOf testOf
-less-than-is s at = ap (test lessThan) (terms-are s 2 0 (at + 3) 2 (omega arith))
+pub comparison-is : (k : Comparison) (s : List ℕ) (at : ℕ) → itemOf (comparisonFrom k s at) ≡ comparisonIn k s at
+unfolding comparisonFrom
+comparison-is k s at = comparison-item k (comparisonFrom k s at) refl ∙ ap (test (comparison k)) (terms-are s (kindOf k) 0 (at + 3) 2 (omega arith))
 
 module _ (s : List ℕ) (at n k : ℕ) (r : ItemR) (q : k ≡ byteAt s (at + 3)) (p : ℕ) (w : p ≡ byteAt s (at + 4)) where
   pub positive-from : k ≡ 0 → r ≡ itemFrom s 0 p (at + 5) n → r ≡ literalFrom s at n
@@ -110,9 +111,9 @@ module _ (t : ℕ) (s : List ℕ) (at n : ℕ) (r : Bool) where
   unfolding outOfRange
   range-4 e h = rw e h
 
-  pub range-5 : tagOf t ≡ lessThanTag → r ≡ any (badTerm s) (termPlaces (at + 3) 2) → r ≡ outOfRange (tagOf t) s at n
+  pub range-rest : (k : Comparison) → tagOf t ≡ comparisonTag k → r ≡ any (badTerm s) (termPlaces (at + 3) 2) → r ≡ outOfRange (tagOf t) s at n
   unfolding outOfRange
-  range-5 e h = rw e h
+  range-rest k e h = rw e h
 
 -- the first of two tests
 pub either : (a : ℕ) (x y : ℕ) (c : Bool) → x ≡ y → a < x → true ≡ (ltb a y || c)

@@ -5,14 +5,14 @@ use mathlib.Core.Bool.{Bool, false, cond}
 use mathlib.Core.List.{List}
 use lib.ListN.{length, getD, set}
 use lib.Dec.{eqb}
-use Rattle.meaning.specs.Job.{predicateLimit, rowLimit, arityLimit}
-use Rattle.meaning.specs.Reading.{byteAt, Tag, predicateTag, rowTag, headTag, literalTag, lessThanTag, tagAt, lengthAt, tagOf, lineOf, predicateAt, outOfRange, after}
+use Rattle.meaning.specs.Job.{predicateLimit, rowLimit, arityLimit, Comparison}
+use Rattle.meaning.specs.Reading.{byteAt, Tag, predicateTag, rowTag, headTag, literalTag, comparisonTag, tagAt, lengthAt, tagOf, lineOf, predicateAt, outOfRange, after}
 use Rattle.rule.specs.declared.Item.{Item}
 use Rattle.rule.specs.Rule.{termsOf}
 use Rattle.job.specs.Puts.{puts}
 use Rattle.job.specs.Bound.{marked}
-use Rattle.job.specs.Progress.{farthest, cellFrom, headFrom, literalFrom, lessThanFrom, countOf, readOf, Well, Filled}
-use Rattle.job.specs.Table.{placesIn}
+use Rattle.job.specs.Progress.{farthest, cellFrom, headFrom, literalFrom, comparisonFrom, countOf, readOf, Well, Filled}
+use Rattle.job.specs.Table.{lastTag, placesIn}
 use Rattle.job.specs.declared.progress.Progress.{Progress}
 
 abbrev pub withPredicate : List ℕ → ℕ → ℕ → Progress → Progress
@@ -110,8 +110,8 @@ unfoldable pub withLiteral : List ℕ → ℕ → ℕ → Progress → Progress
 withLiteral s at group p =
     withItem group (literalOf s at p) p (cond (eqb (literalOf s at p .kind) 0) (marked (p .bound) (termsOf (literalOf s at p))) (p .bound))
 
-abbrev pub withLessThan : List ℕ → ℕ → ℕ → Progress → Progress
-withLessThan s at group p = withItem group (lessThanFrom s at) p (p .bound)
+abbrev pub withComparison : Comparison → List ℕ → ℕ → ℕ → Progress → Progress
+withComparison k s at group p = withItem group (comparisonFrom k s at) p (p .bound)
 
 -- the record and the arrays after the field at `at`, by its tag
 
@@ -120,27 +120,27 @@ nextRecord predicateTag s at p = withPredicate s at 1 p
 nextRecord rowTag s at p = withRow s at 2 p
 nextRecord headTag s at p = withHead s at 3 p
 nextRecord literalTag s at p = withLiteral s at 4 p
-nextRecord lessThanTag s at p = withLessThan s at 4 p
+nextRecord (comparisonTag k) s at p = withComparison k s at 4 p
 
 unfoldable pub nextCells : Tag → List ℕ → ℕ → Progress → List ℕ → List ℕ
 nextCells predicateTag s at p cells = cells
 nextCells rowTag s at p cells = withCells s at p cells
 nextCells headTag s at p cells = cells
 nextCells literalTag s at p cells = cells
-nextCells lessThanTag s at p cells = cells
+nextCells (comparisonTag k) s at p cells = cells
 
 unfoldable pub nextIndex : Tag → List ℕ → ℕ → Progress → List ℕ → List ℕ
 nextIndex predicateTag s at p index = index
 nextIndex rowTag s at p index = withIndex s at p index
 nextIndex headTag s at p index = index
 nextIndex literalTag s at p index = index
-nextIndex lessThanTag s at p index = index
+nextIndex (comparisonTag k) s at p index = index
 
 -- what the absence of a fault says of the field at `at`
 pub record Sound (s : List ℕ) (at : ℕ) (p : Progress) : Type 0 where
   pub fits : at + 3 + lengthAt s at ≤ length s
   pub some : 1 ≤ tagAt s at
-  pub known : tagAt s at ≤ 5
+  pub known : tagAt s at ≤ lastTag
   pub limit : countOf (tagOf (tagAt s at)) p < lineOf (tagOf (tagAt s at)) .limit
   pub declared : 0 < lineOf (tagOf (tagAt s at)) .upTo → predicateAt (tagOf (tagAt s at)) s at < p .rule .predicates
   pub range : outOfRange (tagOf (tagAt s at)) s at (placesIn (tagAt s at) s at p) ≡ false

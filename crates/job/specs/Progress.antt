@@ -6,13 +6,13 @@ use mathlib.Core.List.{List}
 use lib.ListN.{length, getD, replicate}
 use lib.Dec.{eqb}
 use Rattle.meaning.specs.Basics.{tab}
-use Rattle.meaning.specs.Job.{predicateLimit, rowLimit, headLimit, itemLimit, arityLimit, variableLimit, Job}
-use Rattle.meaning.specs.Reading.{byteAt, be32, Tag, predicateTag, rowTag, headTag, literalTag, lessThanTag, Read}
+use Rattle.meaning.specs.Job.{predicateLimit, rowLimit, headLimit, itemLimit, arityLimit, variableLimit, Comparison, Job}
+use Rattle.meaning.specs.Reading.{byteAt, be32, Tag, predicateTag, rowTag, headTag, literalTag, comparisonTag, Read}
 use Rattle.rule.specs.declared.Term.{Term}
 use Rattle.rule.specs.declared.Item.{Item}
 use Rattle.rule.specs.declared.Rule.{Rule}
 use Rattle.rule.specs.Limits.{cellLimit, indexLimit}
-use Rattle.rule.specs.Rule.{ruleOf, bodyOf, noTerm}
+use Rattle.rule.specs.Rule.{ruleOf, bodyOf, noTerm, kindOf}
 use Rattle.job.specs.Puts.{puts}
 use Rattle.job.specs.Bound.{Bound}
 use Rattle.job.specs.declared.progress.Progress.{Progress}
@@ -41,8 +41,8 @@ headFrom s at n = itemFrom s 0 (byteAt s (at + 3)) (at + 4) n
 unfoldable pub literalFrom : List ℕ → ℕ → ℕ → Item
 literalFrom s at n = itemFrom s (cond (eqb (byteAt s (at + 3)) 0) 0 1) (byteAt s (at + 4)) (at + 5) n
 
-unfoldable pub lessThanFrom : List ℕ → ℕ → Item
-lessThanFrom s at = itemFrom s 2 0 (at + 3) 2
+unfoldable pub comparisonFrom : Comparison → List ℕ → ℕ → Item
+comparisonFrom k s at = itemFrom s (kindOf k) 0 (at + 3) 2
 
 -- before the first field
 
@@ -66,7 +66,7 @@ countOf predicateTag p = p .rule .predicates
 countOf rowTag p = p .total
 countOf headTag p = p .rule .many
 countOf literalTag p = p .rule .size
-countOf lessThanTag p = p .rule .size
+countOf (comparisonTag k) p = p .rule .size
 
 -- what the arrays stand for
 

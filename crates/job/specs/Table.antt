@@ -3,14 +3,22 @@ use Prim.Native.Nat.{ℕ, _+_, _*_, _≤_}
 use mathlib.Core.Path.{_≡_}
 use mathlib.Core.Bool.{Bool, true, false, _&&_}
 use mathlib.Core.List.{List}
-use lib.Dec.{ltb, leb}
-use Rattle.meaning.specs.Job.{arityLimit}
+use lib.Dec.{eqb, ltb, leb}
+use Rattle.meaning.specs.Job.{arityLimit, Comparison, lessThan, before}
 use Rattle.meaning.specs.Reading.{Line as LineOf, tagOf, lineOf, predicateAt, placesAt}
 use Rattle.job.specs.Progress.{aritiesOf}
 use Rattle.job.specs.declared.table.Line.{Line}
 use Rattle.job.specs.declared.progress.Progress.{Progress}
 use Rattle.job.specs.declared.judge.Places.{Places}
 use Rattle.job.specs.declared.judge.Places.the-variants.{Of, Undeclared}
+
+-- the tags are 1 to this
+abbrev pub lastTag : ℕ
+lastTag = 6
+
+-- the comparison that a tag past the literal's stands for
+unfoldable pub comparisonAt : ℕ → Comparison
+comparisonAt tag = elim (eqb tag 5) [ true ↦ lessThan | false ↦ before ]
 
 -- the code's line stands for the meaning's
 pub record LineIs (r : Line) (l : LineOf) : Type 0 where

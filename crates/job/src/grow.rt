@@ -9,12 +9,13 @@ ghost use Rattle.meaning.specs.Reading.{tagAt};
 ghost use Rattle.job.specs.Puts.{puts};
 ghost use Rattle.rule.specs.Limits.{cellLimit};
 ghost use Rattle.job.specs.Progress.{farthest, cellFrom, Filled};
-ghost use Rattle.job.specs.Grow.{withPredicate, withHead, withItem, withLiteral, withLessThan, Named, Ready, Stepped};
+ghost use Rattle.job.specs.Table.{comparisonAt};
+ghost use Rattle.job.specs.Grow.{withPredicate, withHead, withItem, withLiteral, withComparison, Named, Ready, Stepped};
 use crate::bound::mark_terms;
 use crate::bytes::byte;
 use crate::bytes::four;
+use crate::items::comparison_in;
 use crate::items::head_in;
-use crate::items::less_than_in;
 use crate::items::literal_in;
 use crate::progress::Progress;
 use crate::table::HEAD;
@@ -122,11 +123,11 @@ fn grow_literal(bytes: &[u8], at: usize, group: usize, p: Progress) -> Progress
     r
 }
 
-fn grow_less_than(bytes: &[u8], at: usize, group: usize, p: Progress) -> Progress
+fn grow_comparison(bytes: &[u8], at: usize, tag: usize, group: usize, p: Progress) -> Progress
     requires { ⌜ (at + 128 < farthest) × (p .rule .size < itemLimit) ⌝ }
-    ensures { λ r. ⌜ r ≡ withLessThan (now (bytes .entry)) at group p ⌝ }
+    ensures { λ r. ⌜ r ≡ withComparison (comparisonAt tag) (now (bytes .entry)) at group p ⌝ }
 {
-    add_item(group, less_than_in(bytes, at), p)
+    add_item(group, comparison_in(bytes, at, tag), p)
 }
 
 // A field that is no row. A row's step is taken where the record stands, in the reading loop.
@@ -140,6 +141,6 @@ pub fn grow(bytes: &[u8], at: usize, p: Progress) -> Progress
         PREDICATE => grow_predicate(bytes, at, group, p),
         HEAD => grow_head(bytes, at, group, p),
         LITERAL => grow_literal(bytes, at, group, p),
-        _ => grow_less_than(bytes, at, group, p),
+        _ => grow_comparison(bytes, at, tag, group, p),
     }
 }

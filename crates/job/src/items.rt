@@ -2,11 +2,12 @@
 ghost use mathlib.Core.Path.{_≡_};
 ghost use Prim.Native.Nat.{_+_, _≤_, _<_};
 ghost use Rattle.meaning.specs.Job.{arityLimit};
-ghost use Rattle.job.specs.Progress.{farthest, itemFrom, headFrom, literalFrom, lessThanFrom};
+ghost use Rattle.job.specs.Progress.{farthest, itemFrom, headFrom, literalFrom, comparisonFrom};
+ghost use Rattle.job.specs.Table.{comparisonAt};
 use crate::bytes::byte;
+use crate::table::kind_of;
 use crate::terms::terms_at;
 use rule::Item;
-use rule::LESS_THAN;
 use rule::NEGATED;
 use rule::POSITIVE;
 
@@ -42,9 +43,9 @@ pub fn literal_in(bytes: &[u8], at: usize, n: usize) -> Item
     item_at(bytes, NEGATED, predicate, at + 5, n)
 }
 
-pub fn less_than_in(bytes: &[u8], at: usize) -> Item
+pub fn comparison_in(bytes: &[u8], at: usize, tag: usize) -> Item
     requires { ⌜ at + 128 < farthest ⌝ }
-    ensures { λ r. ⌜ r ≡ lessThanFrom (now (bytes .entry)) at ⌝ }
+    ensures { λ r. ⌜ r ≡ comparisonFrom (comparisonAt tag) (now (bytes .entry)) at ⌝ }
 {
-    item_at(bytes, LESS_THAN, 0, at + 3, 2)
+    item_at(bytes, kind_of(tag), 0, at + 3, 2)
 }

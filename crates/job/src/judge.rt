@@ -2,7 +2,7 @@
 ghost use mathlib.Core.Path.{_≡_};
 ghost use Prim.Native.Nat.{_+_, _≤_, _<_};
 ghost use Rattle.meaning.specs.Job.{arityLimit};
-ghost use Rattle.job.specs.Table.{PlacesAre, exactOf, placesIn};
+ghost use Rattle.job.specs.Table.{lastTag, PlacesAre, exactOf, placesIn};
 ghost use Rattle.job.specs.Progress.{farthest, Well};
 ghost use Rattle.job.specs.Fault.{Judges, FieldAt};
 use crate::bytes::byte;
@@ -31,7 +31,7 @@ fn places_of<'a>(
     p: Progress,
     arities: &'a [usize; PREDICATE_LIMIT],
 ) -> Places
-    requires { ⌜ (at + 128 < farthest) × (1 ≤ tag) × (tag ≤ 5) × Well p × (now arities ≡ p .arities) ⌝ }
+    requires { ⌜ (at + 128 < farthest) × (1 ≤ tag) × (tag ≤ lastTag) × Well p × (now arities ≡ p .arities) ⌝ }
     ensures { λ r. ⌜ PlacesAre r tag (now (bytes .entry)) at p ⌝ }
 {
     let line = line_of(tag);
@@ -47,7 +47,7 @@ fn places_of<'a>(
 
 // The exact length of a field whose predicate has n places.
 fn exact(tag: usize, n: usize) -> usize
-    requires { ⌜ (1 ≤ tag) × (tag ≤ 5) × (n ≤ arityLimit) ⌝ }
+    requires { ⌜ (1 ≤ tag) × (tag ≤ lastTag) × (n ≤ arityLimit) ⌝ }
     ensures { λ r. ⌜ r ≡ exactOf tag n ⌝ }
 {
     let line = line_of(tag);
@@ -63,7 +63,7 @@ fn judge_content(
     n: usize,
     p: Progress,
 ) -> Judged
-    requires { ⌜ FieldAt (now bytes) at tag length × (1 ≤ tag) × (tag ≤ 5) × Well p × (n ≤ arityLimit) × (n ≡ placesIn tag (now bytes) at p) ⌝ }
+    requires { ⌜ FieldAt (now bytes) at tag length × (1 ≤ tag) × (tag ≤ lastTag) × Well p × (n ≤ arityLimit) × (n ≡ placesIn tag (now bytes) at p) ⌝ }
     ensures { λ r. ⌜ Judges r (now (bytes .entry)) at p 6 ⌝ }
 {
     if length != exact(tag, n) {
@@ -90,7 +90,7 @@ fn judge_named<'a>(
     p: Progress,
     arities: &'a [usize; PREDICATE_LIMIT],
 ) -> Judged
-    requires { ⌜ FieldAt (now bytes) at tag length × (1 ≤ tag) × (tag ≤ 5) × Well p × (now arities ≡ p .arities) ⌝ }
+    requires { ⌜ FieldAt (now bytes) at tag length × (1 ≤ tag) × (tag ≤ lastTag) × Well p × (now arities ≡ p .arities) ⌝ }
     ensures { λ r. ⌜ Judges r (now (bytes .entry)) at p 4 ⌝ }
 {
     let line = line_of(tag);

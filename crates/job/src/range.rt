@@ -11,7 +11,7 @@ ghost use Rattle.job.specs.Progress.{farthest};
 ghost use Rattle.job.specs.Bound.{Bound};
 use crate::bound::free_terms;
 use crate::bytes::byte;
-use crate::items::less_than_in;
+use crate::items::comparison_in;
 use crate::items::literal_in;
 use crate::table::HEAD;
 use crate::table::LITERAL;
@@ -79,6 +79,6 @@ pub fn unbound_in(
         ROW => false,
         HEAD => false,
         LITERAL => unbound_literal(bytes, at, n, bound),
-        _ => free_terms(less_than_in(bytes, at), bound),
+        _ => free_terms(comparison_in(bytes, at, tag), bound),
     }
 }

@@ -3,6 +3,7 @@ pub mod Cases
 pub mod Basics
 pub mod Tab
 pub mod Reading
+pub mod Counter
 pub mod Group
 pub mod Local
 pub mod Jump

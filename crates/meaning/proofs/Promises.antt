@@ -1,12 +1,13 @@
 -- The promises, in one place. `ground` is what the one public call answers and leaves in the lent cells: see specs/Ground.
 use mathlib.Core.Path.{_≡_}
-use mathlib.Core.Logic.{_↔_}
+use mathlib.Core.Logic.{_⊎_, _↔_}
 use mathlib.Core.List.{List, [], _∷_, flatten, List·Memᴰ}
-use Prim.Native.Nat.{ℕ, _+_, _-_, _*_, _≤_, _<_}
+use Prim.Native.Nat.{ℕ, _+_, _-_, _*_, _%_, _≤_, _<_}
 use lib.ListN.{length, take, drop}
 use lib.Dec.{T}
-use Rattle.meaning.specs.Job.{negated, lessThan, Rule, Job, rowsOf, size, Sound}
+use Rattle.meaning.specs.Job.{lessThan, before, negated, comparison, Rule, Job, rowsOf, size, Sound}
 use Rattle.meaning.specs.Reading.{refused, accepted, reading}
+use Rattle.meaning.specs.Counter.{counter, reach, ahead, Before}
 use Rattle.meaning.specs.Relevant.{Instance, passes, Listing}
 use Rattle.meaning.specs.List.{complete, stopped, full, entrySize, Begins}
 use Rattle.meaning.specs.Plain.{plainCount}
@@ -14,6 +15,7 @@ use Rattle.meaning.specs.Group.{Group, group}
 use Rattle.meaning.specs.Ground.{refusal, entriesOf, testsOf, Ended, ground, listOf, instancesOf}
 use Rattle.meaning.specs.Cases.{table, Right}
 use Rattle.meaning.proofs.Cases as by-computation
+use Rattle.meaning.proofs.Counter as counters
 use Rattle.meaning.proofs.Group as groups
 use Rattle.meaning.proofs.Local as local
 use Rattle.meaning.proofs.Reading as read
@@ -37,8 +39,32 @@ group-is R p j h = (groups.group-is R p j h, groups.is-group R p j h)
 pub negated-is : (J : Job) (p : ℕ) (ns : List ℕ) → T (passes J (negated p) ns) ↔ (List·Memᴰ ns (rowsOf J p) → ⊥)
 negated-is = local.negated-is
 
-pub less-than-is : (J : Job) (a b : ℕ) → T (passes J lessThan (a ∷ b ∷ [])) ↔ (a < b)
+pub less-than-is : (J : Job) (a b : ℕ) → T (passes J (comparison lessThan) (a ∷ b ∷ [])) ↔ (a < b)
 less-than-is = local.less-than-is
+
+-- Request 1/14: "a is before b when b minus a, taken round the counter, is from 1 to 2,147,483,647".
+pub before-is : (J : Job) (a b : ℕ) → T (passes J (comparison before) (a ∷ b ∷ [])) ↔ Before a b
+before-is = local.before-is
+
+-- Which came first, on a counter that rolls over? Nothing is before itself;
+pub never-itself : (a : ℕ) → a < counter → Before a a → ⊥
+never-itself = counters.never-itself
+
+-- of two different numbers exactly one is before the other,
+pub one-before : (a b : ℕ) → a < counter → b < counter → (a ≡ b → ⊥) → (ahead a b ≡ 2147483648 → ⊥) → (Before a b × (Before b a → ⊥)) ⊎ (Before b a × (Before a b → ⊥))
+one-before = counters.one-before
+
+-- except at distance 2,147,483,648, where neither is;
+pub neither-before : (a b : ℕ) → a < counter → b < counter → ahead a b ≡ 2147483648 → (Before a b → ⊥) × (Before b a → ⊥)
+neither-before = counters.neither-before
+
+-- numbers at most 2,147,483,647 apart compare as by less-than;
+pub in-window : (a b : ℕ) → a < counter → b < counter → a ≤ b + reach → b ≤ a + reach → Before a b ↔ (a < b)
+in-window = counters.in-window
+
+-- and of two times at most 2,147,483,647 apart the earlier is before the later, wherever the counter started again.
+pub rolls-over : (s t : ℕ) → s ≤ t + reach → t ≤ s + reach → Before (s % counter) (t % counter) ↔ (s < t)
+rolls-over = counters.rolls-over
 
 -- From here on J is what the bytes were accepted as: any accepted job.
 module _ (bytes : List ℕ) (J : Job) (is : reading bytes ≡ accepted J) where

@@ -13,8 +13,8 @@ use lib.Seq.{getD-at, getD-set-same, getD-set-other}
 use lib.Dec.{T, ltb, leb, eqb}
 use borrow.Author.Tests.{ltb-false, leb-false, eqb-true, eqb-false, lt-ltb}
 use Rattle.meaning.specs.Basics.{tab, any, in?}
-use Rattle.meaning.specs.Job.{jobLimit, predicateLimit, rowLimit, headLimit, itemLimit, arityLimit, variableLimit, Term, number, variable, negated, lessThan, Item, positive, test, Head, Job, rowsOf, terms, varsOf, vars, holds, binder, unbound, noItem, IsTest, size, itemAt, Takes, Formed, Small, Sound}
-use Rattle.meaning.specs.Reading.{byteAt, be32, tagAt, lengthAt, Tag, predicateTag, rowTag, headTag, literalTag, lessThanTag, tagOf, lineOf, predicateAt, placesAt, termAt, termPlaces, termsAt, badTerm, outOfRange, rowIn, headIn, literalIn, lessThanIn, unboundTest, unboundIn, counted, Read, refusals, first, withItem, added, placed, after, nothing, Reading, refused, accepted, unboundHead, finish, readFrom, reading}
+use Rattle.meaning.specs.Job.{jobLimit, predicateLimit, rowLimit, headLimit, itemLimit, arityLimit, variableLimit, Term, number, variable, Comparison, negated, comparison, Item, positive, test, Head, Job, rowsOf, terms, varsOf, vars, holds, binder, unbound, noItem, IsTest, size, itemAt, Takes, Formed, Small, Sound}
+use Rattle.meaning.specs.Reading.{byteAt, be32, tagAt, lengthAt, Tag, predicateTag, rowTag, headTag, literalTag, comparisonTag, tagOf, lineOf, predicateAt, placesAt, termAt, termPlaces, termsAt, badTerm, outOfRange, rowIn, headIn, literalIn, comparisonIn, unboundTest, unboundIn, counted, Read, refusals, first, withItem, added, placed, after, nothing, Reading, refused, accepted, unboundHead, finish, readFrom, reading}
 use Rattle.meaning.proofs.Basics.{split, is-T, T-is, not-T, or-l, or-r, or-cases, lt-or-le, mem-any, in-mem}
 use Rattle.meaning.proofs.Tab.{or-false, any-append, length-tab}
 
@@ -252,7 +252,7 @@ half-predicate s at n J f h =
     formed : (x : Item) → Formed J x → Formed (added predicateTag s at n J) x
     formed (positive p ts) k = takes-more J (byteAt s (at + 3)) p ts k
     formed (test (negated p) ts) k = takes-more J (byteAt s (at + 3)) p ts k
-    formed (test lessThan ts) k = k
+    formed (test (comparison c) ts) k = k
 
 half-row : (s : List ℕ) (at n : ℕ) (J : Job) → Passed rowTag s at n J → Half J → Half (added rowTag s at n J)
 unfolding added counted rowsOf
@@ -335,16 +335,16 @@ half-literal s at n J f h =
     (small-terms s (at + 5) n (r .1)) in
     half-item J (literalIn s at n) (f .room) (k .0) (k .1) (f .bound) h
 
-half-less-than : (s : List ℕ) (at n : ℕ) (J : Job) → Passed lessThanTag s at n J → Half J → Half (added lessThanTag s at n J)
+half-comparison : (k : Comparison) (s : List ℕ) (at n : ℕ) (J : Job) → Passed (comparisonTag k) s at n J → Half J → Half (added (comparisonTag k) s at n J)
 unfolding added counted outOfRange unboundIn terms
-half-less-than s at n J f h = half-item J (lessThanIn s at) (f .room) (length-tab (λ (k : ℕ). termAt s (at + 3 + 5 * k)) 2) (small-terms s (at + 3) 2 (f .ranged)) (f .bound) h
+half-comparison k s at n J f h = half-item J (comparisonIn k s at) (f .room) (length-tab (λ (k : ℕ). termAt s (at + 3 + 5 * k)) 2) (small-terms s (at + 3) 2 (f .ranged)) (f .bound) h
 
 half-added : (t : Tag) (s : List ℕ) (at n : ℕ) (J : Job) → Passed t s at n J → Half J → Half (added t s at n J)
 half-added predicateTag = half-predicate
 half-added rowTag = half-row
 half-added headTag = half-head
 half-added literalTag = half-literal
-half-added lessThanTag = half-less-than
+half-added (comparisonTag k) = half-comparison k
 
 -- the heads and their places
 
@@ -354,7 +354,7 @@ places-added predicateTag s at n J ps e = e
 places-added rowTag s at n J ps e = e
 places-added headTag s at n J ps e = omega (arith, length-snoc ps at, length-snoc (J .rule .heads) (headIn s at n))
 places-added literalTag s at n J ps e = e
-places-added lessThanTag s at n J ps e = e
+places-added (comparisonTag k) s at n J ps e = e
 
 heads-bound : (b : List Item) (hs : List Head) (ps : List ℕ) → length ps ≡ length hs → unboundHead b hs ps ≡ none → (h : Head) → List·Memᴰ h hs → (v : ℕ) → T (in? v (varsOf (h .terms))) → binder b v < length b
 unfolding unboundHead

@@ -1,8 +1,8 @@
--- Document 01, "Cases": the cases marked P, over the bytes, and six jobs that tell wrong walks apart. One table, one statement.
+-- Document 01, "Cases": the cases marked P, over the bytes, six jobs that tell wrong walks apart, and the cases of request 1/14. One table, one statement.
 use mathlib.Core.Path.{_≡_}
 use mathlib.Core.List.{List, [], _∷_, _++_, map, flatten}
 use mathlib.Core.Option.{Option, none, some}
-use Prim.Native.Nat.{ℕ, _-_}
+use Prim.Native.Nat.{ℕ, _-_, _/_, _%_}
 use lib.ListN.{length, replicate}
 use Rattle.meaning.specs.Reading.{Reading, refused, accepted, reading}
 use Rattle.meaning.specs.List.{Ending, complete, stopped, full}
@@ -59,18 +59,18 @@ refusedCase bytes number place = record {
   expected = record { answer = refusal number place; cells = replicate 4096 7; plain = none };
 }
 
--- The bytes of a field, of its terms and cells, where each number is below 256.
+-- The bytes of a field shorter than 256, and of its cells and terms.
 abbrev field : ℕ → List (List ℕ) → List ℕ
 field tag parts = tag ∷ 0 ∷ length (flatten parts) ∷ flatten parts
 
+abbrev cell : ℕ → List ℕ
+cell m = m / 16777216 ∷ m / 65536 % 256 ∷ m / 256 % 256 ∷ m % 256 ∷ []
+
 abbrev n : ℕ → List ℕ
-n m = 0 ∷ 0 ∷ 0 ∷ 0 ∷ m ∷ []
+n m = 0 ∷ cell m
 
 abbrev v : ℕ → List ℕ
-v m = 1 ∷ 0 ∷ 0 ∷ 0 ∷ m ∷ []
-
-abbrev cell : ℕ → List ℕ
-cell m = 0 ∷ 0 ∷ 0 ∷ m ∷ []
+v m = 1 ∷ cell m
 
 -- a predicate that is solved, and one that is not, by its arity
 abbrev solved : ℕ → List ℕ
@@ -126,6 +126,17 @@ job3 = job (solved 1 ∷ solved 1 ∷ solved 2 ∷ unsolved 2 ∷ r 0 1 ∷ r 0 
 abbrev job4 : List (List ℕ) → List ℕ
 job4 heads = job (solved 1 ∷ solved 1 ∷ unsolved 1 ∷ r 0 1 ∷ r 0 2 ∷ r 1 5 ∷ r 1 6 ∷ r 1 7 ∷ flatten heads ∷ l 0 0 ∷ l 1 1 ∷ [])
 
+-- case 2 with other times and another comparison, by its tag
+abbrev events : ℕ → ℕ → ℕ → List ℕ
+events tag m k = job (solved 2 ∷ unsolved 2 ∷ rr 0 1 m ∷ rr 0 2 k ∷ hh 1 0 2 ∷ ll 0 0 1 ∷ ll 0 2 3 ∷ field tag (v 1 ∷ v 3 ∷ []) ∷ [])
+
+-- a comparison of two numbers by itself: listed with the empty support after one test, or not
+abbrev holding : ℕ → ℕ → ℕ → Case
+holding tag m k = list (field tag (n m ∷ n k ∷ [])) ((1 ∷ []) ∷ []) complete 1 1
+
+abbrev failing : ℕ → ℕ → ℕ → Case
+failing tag m k = list (field tag (n m ∷ n k ∷ [])) [] complete 1 1
+
 abbrev pub table : List Case
 table =
     -- case 1
@@ -168,4 +179,24 @@ table =
     -- one that follows the group only towards later items loses the entry here
     ∷ list (job (solved 2 ∷ unsolved 2 ∷ rr 0 1 0 ∷ rr 0 2 2 ∷ hh 1 0 1 ∷ ll 0 2 3 ∷ ll 0 1 1 ∷ ll 0 0 3 ∷ ll 0 1 0 ∷ []))
     ((14 ∷ 2 ∷ 2 ∷ 1 ∷ 1 ∷ 1 ∷ 1 ∷ []) ∷ []) complete 14 14
+    -- request 1/14: across the roll-over event 1 is before event 2,
+    ∷ list (events 6 4294967290 5) ((5 ∷ 1 ∷ 2 ∷ 0 ∷ 1 ∷ []) ∷ []) complete 10 10
+    -- which less-than loses, listing the pair the wrong way round
+    ∷ list (events 5 4294967290 5) ((8 ∷ 2 ∷ 1 ∷ 1 ∷ 0 ∷ []) ∷ []) complete 10 10
+    -- distance 2,147,483,647, from 0 and across the roll-over, and the way back
+    ∷ holding 6 0 2147483647
+    ∷ holding 6 4294967295 2147483646
+    ∷ failing 6 2147483647 0
+    -- distance 2,147,483,648, either way
+    ∷ failing 6 0 2147483648
+    ∷ failing 6 2147483648 0
+    -- equal numbers
+    ∷ failing 6 4294967295 4294967295
+    -- the least distance, at the roll-over, and the way back
+    ∷ holding 6 4294967295 0
+    ∷ failing 6 0 4294967295
+    -- "3 now means a tag not 1 to 6"
+    ∷ refusedCase (field 7 (n 0 ∷ n 1 ∷ [])) 3 0
+    -- "9 covers tag 6"
+    ∷ refusedCase (field 6 (n 0 ∷ v 0 ∷ [])) 9 0
     ∷ []

@@ -2,6 +2,7 @@
 pub mod Basics
 pub mod Job
 pub mod Reading
+pub mod Counter
 pub mod Relevant
 pub mod Rows
 pub mod List

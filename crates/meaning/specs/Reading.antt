@@ -6,7 +6,7 @@ use Prim.Native.Nat.{ℕ, zero, suc, _+_, _*_, _-_}
 use lib.ListN.{length, getD, set}
 use lib.Dec.{ltb, leb, eqb}
 use Rattle.meaning.specs.Basics.{tab, any}
-use Rattle.meaning.specs.Job.{jobLimit, predicateLimit, rowLimit, headLimit, itemLimit, arityLimit, variableLimit, Term, number, variable, negated, lessThan, Item, positive, test, Head, Job, varsOf, unbound}
+use Rattle.meaning.specs.Job.{jobLimit, predicateLimit, rowLimit, headLimit, itemLimit, arityLimit, variableLimit, Term, number, variable, Comparison, lessThan, before, negated, comparison, Item, positive, test, Head, Job, varsOf, unbound}
 
 -- "Numbers are big-endian."
 abbrev pub byteAt : List ℕ → ℕ → ℕ
@@ -27,13 +27,14 @@ lengthAt s at = be16 s (at + 1)
 
 -- the tags, from 1
 pub data Tag : Type 0 where
-  predicateTag rowTag headTag literalTag lessThanTag : Tag
+  predicateTag rowTag headTag literalTag : Tag
+  comparisonTag : Comparison → Tag
 
 abbrev pub tags : List Tag
-tags = predicateTag ∷ rowTag ∷ headTag ∷ literalTag ∷ lessThanTag ∷ []
+tags = predicateTag ∷ rowTag ∷ headTag ∷ literalTag ∷ comparisonTag lessThan ∷ comparisonTag before ∷ []
 
 abbrev pub tagOf : ℕ → Tag
-tagOf n = getD tags (n - 1) lessThanTag
+tagOf n = getD tags (n - 1) (comparisonTag before)
 
 -- what the table says of a tag
 pub record Line : Type 0 where
@@ -54,7 +55,7 @@ lineOf predicateTag = line 1 predicateLimit 2 0 0
 lineOf rowTag = line 2 rowLimit 1 1 4
 lineOf headTag = line 3 headLimit 1 1 5
 lineOf literalTag = line 4 itemLimit 2 2 5
-lineOf lessThanTag = line 4 itemLimit 10 0 0
+lineOf (comparisonTag k) = line 4 itemLimit 10 0 0
 
 -- the predicate that a field names
 abbrev pub predicateAt : Tag → List ℕ → ℕ → ℕ
@@ -85,7 +86,7 @@ outOfRange predicateTag s at n = ltb arityLimit (byteAt s (at + 3)) || ltb 1 (by
 outOfRange rowTag s at n = false
 outOfRange headTag s at n = any (badTerm s) (termPlaces (at + 4) n)
 outOfRange literalTag s at n = ltb 1 (byteAt s (at + 3)) || any (badTerm s) (termPlaces (at + 5) n)
-outOfRange lessThanTag s at n = any (badTerm s) (termPlaces (at + 3) 2)
+outOfRange (comparisonTag k) s at n = any (badTerm s) (termPlaces (at + 3) 2)
 
 -- the row, the head and the body item that a field holds, whose predicate has n places
 abbrev pub rowIn : List ℕ → ℕ → ℕ → List ℕ
@@ -101,10 +102,10 @@ literalIn s at n =
       | false ↦ test (negated (byteAt s (at + 4))) (termsAt s (at + 5) n)
     ]
 
-abbrev pub lessThanIn : List ℕ → ℕ → Item
-lessThanIn s at = test lessThan (termsAt s (at + 3) 2)
+abbrev pub comparisonIn : Comparison → List ℕ → ℕ → Item
+comparisonIn k s at = test (comparison k) (termsAt s (at + 3) 2)
 
--- "variable of a negated literal or less-than in no earlier positive literal"
+-- "variable of a negated literal or less-than in no earlier positive literal"; "9 covers tag 6"
 unfoldable pub unboundTest : List Item → Item → Bool
 unboundTest b (positive p ts) = false
 unboundTest b (test k ts) = unbound b (varsOf ts)
@@ -114,7 +115,7 @@ unboundIn predicateTag s at n b = false
 unboundIn rowTag s at n b = false
 unboundIn headTag s at n b = false
 unboundIn literalTag s at n b = unboundTest b (literalIn s at n)
-unboundIn lessThanTag s at n b = unboundTest b (lessThanIn s at)
+unboundIn (comparisonTag k) s at n b = unboundTest b (comparisonIn k s at)
 
 -- how many fields of a tag's kind a job has
 unfoldable pub counted : Tag → Job → ℕ
@@ -122,7 +123,7 @@ counted predicateTag J = length (J .arities)
 counted rowTag J = length (flatten (J .rows))
 counted headTag J = length (J .rule .heads)
 counted literalTag J = length (J .rule .body)
-counted lessThanTag J = length (J .rule .body)
+counted (comparisonTag k) J = length (J .rule .body)
 
 -- What has been read: the last field's group, the places of the heads, and the job so far.
 pub record Read : Type 0 where
@@ -137,7 +138,7 @@ refusals s at st =
     let n = placesAt t s at (st .job .arities) in
     -- "1 or 2 bytes remain where a field should start, or fewer remain than its length says"
     (2, ltb (length s) (at + 3) || ltb (length s) (at + 3 + lengthAt s at))
-    -- "tag not 1 to 5"
+    -- "a tag not 1 to 6" (request 1/14)
     ∷ (3, ltb (tagAt s at) 1 || ltb (length tags) (tagAt s at))
     -- "group lower than an earlier field's": that of the last, since "Groups never go down"
     ∷ (4, ltb (lineOf t .group) (st .group))
@@ -178,14 +179,14 @@ added headTag s at n J = record {
   rule = record { solved = J .rule .solved; heads = J .rule .heads ++ (headIn s at n ∷ []); body = J .rule .body };
 }
 added literalTag s at n J = withItem J (literalIn s at n)
-added lessThanTag s at n J = withItem J (lessThanIn s at)
+added (comparisonTag k) s at n J = withItem J (comparisonIn k s at)
 
 unfoldable pub placed : Tag → ℕ → List ℕ → List ℕ
 placed predicateTag at ps = ps
 placed rowTag at ps = ps
 placed headTag at ps = ps ++ (at ∷ [])
 placed literalTag at ps = ps
-placed lessThanTag at ps = ps
+placed (comparisonTag k) at ps = ps
 
 unfoldable pub after : List ℕ → ℕ → Read → Read
 after s at st =

@@ -5,7 +5,7 @@ use mathlib.Core.List.{List, []}
 use lib.ListN.{getD}
 use lib.Dec.{eqb}
 use Rattle.meaning.specs.Basics.{tab}
-use Rattle.meaning.specs.Job.{predicateLimit, headLimit, itemLimit, arityLimit, Term, number, variable, Test, negated, lessThan, Item, positive, test, Head, Rule}
+use Rattle.meaning.specs.Job.{predicateLimit, headLimit, itemLimit, arityLimit, Term, number, variable, Comparison, lessThan, before, Test, negated, comparison, Item, positive, test, Head, Rule}
 use Rattle.rule.specs.declared.Term.{Term as TermR}
 use Rattle.rule.specs.declared.Item.{Item as ItemR}
 use Rattle.rule.specs.declared.Rule.{Rule as RuleR}
@@ -25,9 +25,16 @@ termAt x j = termOf (getD (x .terms) j noTerm)
 unfoldable pub termsOf : ItemR → List Term
 termsOf x = tab (min (x .arity) arityLimit) (termAt x)
 
--- the kinds, by their numbers in the code
+-- the kinds of comparison, by their numbers in the code
+abbrev pub kindOf : Comparison → ℕ
+kindOf lessThan = 2
+kindOf before = 3
+
+unfoldable pub comparisonOf : ℕ → Comparison
+comparisonOf kind = elim (eqb kind 2) [ true ↦ lessThan | false ↦ before ]
+
 unfoldable pub testOf : ItemR → Test
-testOf x = elim (eqb (x .kind) 1) [ true ↦ negated (x .predicate) | false ↦ lessThan ]
+testOf x = elim (eqb (x .kind) 1) [ true ↦ negated (x .predicate) | false ↦ comparison (comparisonOf (x .kind)) ]
 
 unfoldable pub itemOf : ItemR → Item
 itemOf x = elim (eqb (x .kind) 0) [ true ↦ positive (x .predicate) (termsOf x) | false ↦ test (testOf x) (termsOf x) ]

@@ -2,6 +2,8 @@
 ghost use mathlib.Core.Path.{_≡_};
 ghost use Prim.Native.Nat.{min};
 
+pub mod compare;
+
 pub const JOB_LIMIT: usize = 32768;
 
 pub const PREDICATE_LIMIT: usize = 16;
@@ -28,13 +30,15 @@ pub const NEGATED: u8 = 1;
 
 pub const LESS_THAN: u8 = 2;
 
+pub const BEFORE: u8 = 3;
+
 // A number, or a variable by its number.
 pub struct Term {
     pub variable: bool,
     pub value: u32,
 }
 
-// The first `arity` terms count. A less-than names no predicate.
+// The first `arity` terms count. A comparison names no predicate.
 pub struct Item {
     pub kind: u8,
     pub predicate: usize,

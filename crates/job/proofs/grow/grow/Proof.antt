@@ -1,9 +1,9 @@
 use mathlib.Core.Path.{sym, _∙_}
 use denote.Ref.{now}
 use native.Mathlib.Omega.{arith}
-use Rattle.job.proofs.Tags.{tag-1, tag-3, tag-4, tag-5}
+use Rattle.job.proofs.Tags.{tag-1, tag-3, tag-4, tag-rest}
 use Rattle.job.proofs.Growing.{Sizes}
-use Rattle.job.proofs.Sounds.{tag-at, group-is, ready-1, ready-3, ready-4, ready-5, step-1, step-3, step-4, step-5}
+use Rattle.job.proofs.Sounds.{tag-at, group-is, ready-1, ready-3, ready-4, ready-rest, step-1, step-3, step-4, step-rest}
 use borrow.Author.Needs.{needs}
 use Rattle.job.proofs.grow.grow.Statement.{statement}
 use Rattle.job.proofs.grow.grow.Tie as tie
@@ -33,10 +33,10 @@ grow-head-requires c κs = ready-3 _ _ _ (c .before .before .before .before .pre
 grow-literal-requires : tie.Need-grow-literal-requires
 grow-literal-requires c κs = ready-4 _ _ _ (c .before .before .before .before .pre .0) (tag-at (now (c .before .before .before .before .args .bytes)) (c .before .before .before .before .args .at) _ _ (c .before .before .byte .ensures .0) (tag-4 _ (c .match .keys3)))
 
-grow-less-than-requires : tie.Need-grow-less-than-requires
-grow-less-than-requires c κs =
+grow-comparison-requires : tie.Need-grow-comparison-requires
+grow-comparison-requires c κs =
     let m = c .match .rest in
-    ready-5 _ _ _ (c .before .before .before .before .pre .0) (tag-at (now (c .before .before .before .before .args .bytes)) (c .before .before .before .before .args .at) _ _ (c .before .before .byte .ensures .0) (tag-5 _ (omega (arith, c .before .before .before .before .pre .0 .sound .some, c .before .before .byte .ensures .0)) (m .0 .0 .1) (λ e. c .before .before .before .before .pre .1 (sym (c .before .before .byte .ensures .0) ∙ e)) (m .0 .1) (m .1)))
+    ready-rest _ _ _ (c .before .before .before .before .pre .0) _ (tag-at (now (c .before .before .before .before .args .bytes)) (c .before .before .before .before .args .at) _ _ (c .before .before .byte .ensures .0) (tag-rest _ (omega (arith, c .before .before .before .before .pre .0 .sound .some, c .before .before .byte .ensures .0)) (m .0 .0 .1) (λ e. c .before .before .before .before .pre .1 (sym (c .before .before .byte .ensures .0) ∙ e)) (m .0 .1) (m .1)))
 
 returns : tie.Need-returns
 returns c =
@@ -56,8 +56,8 @@ returns-3 c =
 returns-4 : tie.Need-returns-4
 returns-4 c =
     let m = c .before .match .rest in
-    let t = tag-5 _ (omega (arith, c .before .before .before .before .before .pre .0 .sound .some, c .before .before .before .byte .ensures .0)) (m .0 .0 .1) (λ e. c .before .before .before .before .before .pre .1 (sym (c .before .before .before .byte .ensures .0) ∙ e)) (m .0 .1) (m .1) in
-    λ cells index f. step-5 _ _ _ (c .before .before .before .before .before .pre .0) (sizes (c .before .before .before .before .before)) _ _ cells index f (tag-at (now (c .before .before .before .before .before .args .bytes)) (c .before .before .before .before .before .args .at) _ _ (c .before .before .before .byte .ensures .0) t) (group-is _ (c .before .before .before .byte .result) _ (c .before .before .line-of .ensures) t) (c .grow-less-than .ensures)
+    let t = tag-rest _ (omega (arith, c .before .before .before .before .before .pre .0 .sound .some, c .before .before .before .byte .ensures .0)) (m .0 .0 .1) (λ e. c .before .before .before .before .before .pre .1 (sym (c .before .before .before .byte .ensures .0) ∙ e)) (m .0 .1) (m .1) in
+    λ cells index f. step-rest _ _ _ (c .before .before .before .before .before .pre .0) (sizes (c .before .before .before .before .before)) _ _ cells index f _ (tag-at (now (c .before .before .before .before .before .args .bytes)) (c .before .before .before .before .before .args .at) _ _ (c .before .before .before .byte .ensures .0) t) (group-is _ (c .before .before .before .byte .result) _ (c .before .before .line-of .ensures) t) (c .grow-comparison .ensures)
 
 pub grow-spec : {M : Type 1} → statement M
 grow-spec =
@@ -68,7 +68,7 @@ grow-spec =
     grow-predicate-requires
     grow-head-requires
     grow-literal-requires
-    grow-less-than-requires
+    grow-comparison-requires
     returns
     returns-2
     returns-3

@@ -1,5 +1,5 @@
-use Rattle.job.proofs.TermLaws.{range-1, range-2, range-3, range-4, range-5}
-use Rattle.job.proofs.Tags.{tag-1, tag-2, tag-3, tag-4, tag-5}
+use Rattle.job.proofs.TermLaws.{range-1, range-2, range-3, range-4, range-rest}
+use Rattle.job.proofs.Tags.{tag-1, tag-2, tag-3, tag-4, tag-rest}
 use mathlib.Core.Bool.{false}
 use borrow.Author.Needs.{needs}
 use Rattle.job.proofs.range.out_of_range.Statement.{statement}
@@ -36,7 +36,7 @@ returns-4 : tie.Need-returns-4
 returns-4 c = range-4 (c .before .before .before .args .tag) _ _ _ _ (tag-4 _ (c .before .match .keys4)) (c .bad-literal .ensures)
 
 returns-5 : tie.Need-returns-5
-returns-5 c = let m = c .before .match .rest in range-5 (c .before .before .before .args .tag) _ _ _ _ (tag-5 _ (c .before .before .before .pre .1) (m .0 .0 .0 .1) (m .0 .0 .1) (m .0 .1) (m .1)) (c .bad-terms2 .ensures)
+returns-5 c = let m = c .before .match .rest in range-rest (c .before .before .before .args .tag) _ _ _ _ _ (tag-rest _ (c .before .before .before .pre .1) (m .0 .0 .0 .1) (m .0 .0 .1) (m .0 .1) (m .1)) (c .bad-terms2 .ensures)
 
 pub out-of-range-spec : {M : Type 1} → statement M
 out-of-range-spec =

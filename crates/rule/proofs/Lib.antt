@@ -1,0 +1,3 @@
+-- The laws of the kinds.
+pub mod Items
+pub mod Comparisons
