@@ -1,10 +1,11 @@
 -- The tags by their numbers.
 use Rattle.meaning.specs.Job.{predicateLimit, rowLimit, headLimit, itemLimit, arityLimit, lessThan, before}
 use Prim.Native.Nat.{ℕ, zero, suc, _+_, _*_, _-_, _≤_}
-use mathlib.Core.Path.{_≡_, refl, sym, ap, _∙_}
+use mathlib.Core.Path.{_≡_, refl, ap, _∙_}
+use native.Mathlib.Decide.{ℕ-discrete}
 use native.Mathlib.Omega.{arith}
 use mathlib.Core.List.{List, [], _∷_}
-use lib.ListN.{getD}
+use lib.ListN.{getD, List·getD-eq-default}
 use borrow.Author.Tests.{eq-eqb, ne-eqb}
 use Rattle.meaning.specs.Reading.{Tag, predicateTag, rowTag, headTag, literalTag, comparisonTag, tags, tagOf, lineOf}
 use Rattle.job.specs.Progress.{countOf}
@@ -35,19 +36,19 @@ module _ (t : ℕ) where
   unfolding comparisonAt
   at-before e = rw (ne-eqb t 5 e, comparisonAt) refl
 
-past : (t : ℕ) → suc (suc (suc (suc (suc (suc (suc t)))))) - 1 ≡ suc (suc (suc (suc (suc (suc t)))))
-past t = omega arith
+-- the last tag, and what stands past it
+tag-last : (t : ℕ) → 5 ≤ t → (t ≡ 5 → ⊥) → tagOf t ≡ comparisonTag before
+tag-last t l e = go (ℕ-discrete t lastTag)
+  where
+    go : Dec (t ≡ lastTag) → tagOf t ≡ comparisonTag before
+    go (yes f) = ap tagOf f
+    go (no f) = let past : lastTag ≤ t - 1 = omega arith in List·getD-eq-default tags (comparisonTag before) past
 
 pub tag-rest : (t : ℕ) → 1 ≤ t → (t ≡ 1 → ⊥) → (t ≡ 2 → ⊥) → (t ≡ 3 → ⊥) → (t ≡ 4 → ⊥) → tagOf t ≡ comparisonTag (comparisonAt t)
-unfolding comparisonAt
-tag-rest zero l a b c d = absurd (omega arith)
-tag-rest (suc zero) l a b c d = absurd (a refl)
-tag-rest (suc (suc zero)) l a b c d = absurd (b refl)
-tag-rest (suc (suc (suc zero))) l a b c d = absurd (c refl)
-tag-rest (suc (suc (suc (suc zero)))) l a b c d = absurd (d refl)
-tag-rest (suc (suc (suc (suc (suc zero))))) l a b c d = refl
-tag-rest (suc (suc (suc (suc (suc (suc zero)))))) l a b c d = refl
-tag-rest (suc (suc (suc (suc (suc (suc (suc t))))))) l a b c d = ap (λ (i : ℕ). getD tags i (comparisonTag before)) (past t) ∙ ap comparisonTag (at-before (suc (suc (suc (suc (suc (suc (suc t))))))) (λ e. omega arith))
+tag-rest t l a b c d = elim (ℕ-discrete t 5) [
+  | yes e ↦ ap tagOf e ∙ ap comparisonTag (at-less-than t e)
+  | no e ↦ tag-last t (omega arith) e ∙ ap comparisonTag (at-before t e)
+]
 
 module _ (t : ℕ) (p : Progress) where
   pub count-1 : t ≡ 1 → p .rule .predicates ≡ countOf (tagOf t) p
@@ -64,14 +65,7 @@ module _ (t : ℕ) (p : Progress) where
 
 pub count-rest : (t : ℕ) (p : Progress) → 1 ≤ t → (t ≡ 1 → ⊥) → (t ≡ 2 → ⊥) → (t ≡ 3 → ⊥) → p .rule .size ≡ countOf (tagOf t) p
 unfolding countOf
-count-rest zero p l a b c = absurd (omega arith)
-count-rest (suc zero) p l a b c = absurd (a refl)
-count-rest (suc (suc zero)) p l a b c = absurd (b refl)
-count-rest (suc (suc (suc zero))) p l a b c = absurd (c refl)
-count-rest (suc (suc (suc (suc zero)))) p l a b c = refl
-count-rest (suc (suc (suc (suc (suc zero))))) p l a b c = refl
-count-rest (suc (suc (suc (suc (suc (suc zero)))))) p l a b c = refl
-count-rest (suc (suc (suc (suc (suc (suc (suc t))))))) p l a b c = ap (λ (i : ℕ). countOf (getD tags i (comparisonTag before)) p) (sym (past t))
+count-rest t p l a b c = elim (ℕ-discrete t 4) [ yes e ↦ rw (tag-4 t e) refl | no d ↦ rw (tag-rest t l a b c d) refl ]
 
 -- the table in the code, and that of the meaning
 
