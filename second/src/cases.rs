@@ -1,11 +1,11 @@
-//! The document's cases 1 to 12, and those of request 1/14.
+//! The document's cases 1 to 12, and those of requests 1/14 and 2/14.
 
 use crate::fields::{before, head, less_than, n, negated, positive, predicate, row, v, Field};
 use crate::rule::Term;
 use crate::run::{Run, LISTER_CELLS};
 
 /// Every run that cases 1 to 12 tell of, in their order, then the roll-over
-/// under both comparisons.
+/// under both comparisons and the stops under both marks.
 pub fn runs() -> Vec<Run> {
     let lister = [
         case_1(),
@@ -20,6 +20,10 @@ pub fn runs() -> Vec<Run> {
         case_12(),
         roll_over(before),
         roll_over(less_than),
+        stops(false, true),
+        stops(true, true),
+        stops(false, false),
+        stops(true, false),
     ];
     let mut runs: Vec<Run> = lister.into_iter().map(Run::of_lister).collect();
     runs.push(with_allowance(case_6(), 0));
@@ -182,6 +186,29 @@ pub fn roll_over(comparison: fn(Term, Term) -> Field) -> Vec<u8> {
         positive(event, &[v(0), v(1)]),
         positive(event, &[v(2), v(3)]),
         comparison(v(1), v(3)),
+    ]
+    .concat()
+}
+
+/// `h(V0)`, or no head, if `e(V0)` and `not m(V0)`, with the row of m that would
+/// kill V0 = 1.
+pub fn stops(solved: bool, headed: bool) -> Vec<u8> {
+    let (e, m, h) = (0, 1, 2);
+    let heads = if headed {
+        head(h, &[v(0)])
+    } else {
+        Field::new()
+    };
+    [
+        predicate(1, true),
+        predicate(1, solved),
+        predicate(1, false),
+        row(e, &[1]),
+        row(e, &[2]),
+        row(m, &[1]),
+        heads,
+        positive(e, &[v(0)]),
+        negated(m, &[v(0)]),
     ]
     .concat()
 }

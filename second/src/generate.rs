@@ -42,6 +42,7 @@ struct Maker<'a> {
     /// The positive literals so far, and their variables.
     positives: Vec<(u8, Vec<Term>)>,
     bound: Vec<usize>,
+    negated: Vec<(u8, Vec<Term>)>,
 }
 
 impl<'a> Maker<'a> {
@@ -62,6 +63,7 @@ impl<'a> Maker<'a> {
             arities,
             positives: Vec::new(),
             bound: Vec::new(),
+            negated: Vec::new(),
         }
     }
 
@@ -92,7 +94,8 @@ impl<'a> Maker<'a> {
     }
 
     /// Adds the rows that make a choice valid as far as the positive literals
-    /// go, now and then one too few, and seldom one twice.
+    /// go, now and then one too few, and seldom one twice. Now and then a row
+    /// kills the choice, where its predicate is solved.
     fn plant(&mut self, rows: &mut Vec<Field>) {
         let choice: Vec<u32> = (0..VARIABLES).map(|_| self.number()).collect();
         let value = |term: &Term| match *term {
@@ -104,6 +107,12 @@ impl<'a> Maker<'a> {
             let row = row(*predicate, &cells);
             if self.random.one_in(8) == rows.contains(&row) {
                 rows.push(row);
+            }
+        }
+        for (predicate, terms) in &self.negated {
+            if self.random.one_in(3) {
+                let cells: Vec<u32> = terms.iter().map(value).collect();
+                rows.push(row(*predicate, &cells));
             }
         }
     }
@@ -139,7 +148,9 @@ impl<'a> Maker<'a> {
     fn negated(&mut self) -> Field {
         let (predicate, arity) = self.predicate();
         let terms = self.bound_terms(arity);
-        negated(predicate, &terms)
+        let field = negated(predicate, &terms);
+        self.negated.push((predicate, terms));
+        field
     }
 
     fn comparison(&mut self) -> Field {

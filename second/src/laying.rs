@@ -53,7 +53,8 @@ pub fn lay(job: &Job, item: &Item, row: usize, values: &Values) -> Option<Values
                 .iter()
                 .map(|&term| values.term(term))
                 .collect();
-            (!job.rows(literal).contains(&filled)).then_some(*values)
+            let valid = job.is_unsolved(literal) || !job.rows(literal).contains(&filled);
+            valid.then_some(*values)
         }
         Item::Compared(comparison, [left, right]) => {
             let holds = comparison.holds(values.term(*left), values.term(*right));

@@ -88,6 +88,11 @@ impl Job {
         &self.predicates[literal.predicate].rows
     }
 
+    /// The mark of the literal's predicate says unsolved.
+    pub fn is_unsolved(&self, literal: &Literal) -> bool {
+        !self.predicates[literal.predicate].solved
+    }
+
     /// The positive literals in body order.
     pub fn positives(&self) -> impl Iterator<Item = &Literal> {
         self.body.iter().filter_map(|item| match item {
@@ -99,8 +104,8 @@ impl Job {
     /// "The relevant variables are those in a head and those in a body
     /// literal, of either sign, over an unsolved predicate."
     pub fn relevant(&self) -> Variables {
-        let unsolved = |literal: &&Literal| !self.predicates[literal.predicate].solved;
-        let literals = self.body.iter().filter_map(Item::literal).filter(unsolved);
+        let literals = self.body.iter().filter_map(Item::literal);
+        let literals = literals.filter(|literal| self.is_unsolved(literal));
         self.heads
             .iter()
             .chain(literals)

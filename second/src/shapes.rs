@@ -27,6 +27,8 @@ pub fn jobs() -> Vec<Vec<u8>> {
         unsolved_predicates(),
         unsolved_negated_predicate(),
         constraint_over_unsolved(),
+        negated_in_every_place(false),
+        negated_in_every_place(true),
         join_that_fails_late(),
         mark_cleared_on_entering_again(),
         group_against_body_order(),
@@ -162,6 +164,31 @@ fn constraint_over_unsolved() -> Vec<Field> {
         positive(0, &[v(0), v(1)]),
         positive(0, &[v(1), v(0)]),
         less_than(v(0), n(2)),
+    ]
+}
+
+/// Negated literals between joins, each with rows that would kill choices.
+fn negated_in_every_place(solved: bool) -> Vec<Field> {
+    vec![
+        predicate(1, true),
+        predicate(0, solved),
+        predicate(2, solved),
+        row(0, &[1]),
+        row(1, &[]),
+        row(2, &[1, 2]),
+        row(0, &[2]),
+        row(2, &[2, 2]),
+        row(0, &[3]),
+        row(2, &[3, 1]),
+        head(0, &[v(5)]),
+        positive(0, &[v(0)]),
+        negated(2, &[v(0), n(2)]),
+        positive(0, &[v(5)]),
+        negated(2, &[v(0), v(5)]),
+        positive(0, &[v(2)]),
+        negated(1, &[]),
+        less_than(v(2), v(5)),
+        negated(2, &[v(5), v(2)]),
     ]
 }
 

@@ -1,5 +1,5 @@
-//! The document's cases 1 to 13 with the numbers it gives, and those of request
-//! 1/14.
+//! The document's cases 1 to 13 with the numbers it gives, and those of requests
+//! 1/14 and 2/14.
 
 use crate::cases::*;
 use crate::fields::{before, less_than, n};
@@ -154,6 +154,20 @@ fn request_1_tag_7_is_refused() {
 }
 
 #[test]
+fn request_2_unsolved_rows_kill_nothing() {
+    let both = "vars 0\n2 1 0\n4 2 1\ncomplete 2 4\n";
+    assert_eq!(listed(stops(false, true)), both);
+    assert_eq!(listed(stops(true, true)), "vars 0\n4 2 1\ncomplete 1 4\n");
+    assert_eq!(listed(stops(false, false)), both);
+    assert_eq!(listed(stops(true, false)), "vars\n4 1\ncomplete 1 4\n");
+    for solved in [false, true] {
+        for headed in [false, true] {
+            assert_eq!(plain_count(&stops(solved, headed)), 4);
+        }
+    }
+}
+
+#[test]
 fn plain_counts_that_the_document_does_not_give() {
     let jobs = [
         (case_2(), 10),
@@ -203,6 +217,10 @@ fn accepted_cases_have_the_meaning_s_list() {
         case_11(),
         roll_over(before),
         roll_over(less_than),
+        stops(false, true),
+        stops(true, true),
+        stops(false, false),
+        stops(true, false),
     ];
     for bytes in jobs {
         let job = read(&bytes).expect("the case is accepted");

@@ -6,6 +6,7 @@ pub mod Reading
 pub mod Counter
 pub mod Group
 pub mod Local
+pub mod Unsolved
 pub mod Jump
 pub mod Order
 pub mod Walk

@@ -1,17 +1,18 @@
 -- The promises, in one place. `ground` is what the one public call answers and leaves in the lent cells: see specs/Ground.
 use mathlib.Core.Path.{_≡_}
 use mathlib.Core.Logic.{_⊎_, _↔_}
-use mathlib.Core.List.{List, [], _∷_, flatten, List·Memᴰ}
-use Prim.Native.Nat.{ℕ, _+_, _-_, _*_, _%_, _≤_, _<_}
+use mathlib.Core.List.{List, [], _∷_, _++_, flatten, List·Memᴰ}
+use Prim.Native.Nat.{ℕ, suc, _+_, _-_, _*_, _%_, _≤_, _<_}
 use lib.ListN.{length, take, drop}
 use lib.Dec.{T}
-use Rattle.meaning.specs.Job.{lessThan, before, negated, comparison, Rule, Job, rowsOf, size, Sound}
+use Rattle.meaning.specs.Job.{Term, lessThan, before, negated, comparison, test, Rule, Job, rowsOf, varsOf, size, itemAt, Sound}
 use Rattle.meaning.specs.Reading.{refused, accepted, reading}
 use Rattle.meaning.specs.Counter.{counter, reach, ahead, Before}
-use Rattle.meaning.specs.Relevant.{Instance, passes, Listing}
+use Rattle.meaning.specs.Relevant.{Choice, open?, relevant, Instance, passes, Holds, Listing}
 use Rattle.meaning.specs.List.{complete, stopped, full, entrySize, Begins}
-use Rattle.meaning.specs.Plain.{plainCount}
+use Rattle.meaning.specs.Plain.{plain, plainCount}
 use Rattle.meaning.specs.Group.{Group, group}
+use Rattle.meaning.specs.Walk.{State, tested, enter, makeTest}
 use Rattle.meaning.specs.Ground.{refusal, entriesOf, testsOf, Ended, ground, listOf, instancesOf}
 use Rattle.meaning.specs.Cases.{table, Right}
 use Rattle.meaning.proofs.Cases as by-computation
@@ -20,6 +21,7 @@ use Rattle.meaning.proofs.Group as groups
 use Rattle.meaning.proofs.Local as local
 use Rattle.meaning.proofs.Reading as read
 use Rattle.meaning.proofs.Unique as unique
+use Rattle.meaning.proofs.Unsolved as unsolved
 use Rattle.meaning.proofs.Ground as grounds
 
 -- Demand 1: "A refusal returns its number and place, 0 entries and 0 tests. No list cell changes."
@@ -35,10 +37,11 @@ one-listing = unique.one-listing
 pub group-is : (R : Rule) (p j : ℕ) → p < size R → (List·Memᴰ j (group R p) → Group R p j) × (Group R p j → List·Memᴰ j (group R p))
 group-is R p j h = (groups.group-is R p j h, groups.is-group R p j h)
 
--- A test computes what the document says of it: "each negated literal is not" a row of its predicate, "and each less-than holds as numbers".
-pub negated-is : (J : Job) (p : ℕ) (ns : List ℕ) → T (passes J (negated p) ns) ↔ (List·Memᴰ ns (rowsOf J p) → ⊥)
+-- A test computes what the documents say of it: a negated literal passes when its predicate is unsolved (request 2/14) or it is no row of it,
+pub negated-is : (J : Job) (p : ℕ) (ns : List ℕ) → T (passes J (negated p) ns) ↔ (T (open? (J .rule) p) ⊎ (List·Memᴰ ns (rowsOf J p) → ⊥))
 negated-is = local.negated-is
 
+-- "and each less-than holds as numbers".
 pub less-than-is : (J : Job) (a b : ℕ) → T (passes J (comparison lessThan) (a ∷ b ∷ [])) ↔ (a < b)
 less-than-is = local.less-than-is
 
@@ -66,11 +69,29 @@ in-window = counters.in-window
 pub rolls-over : (s t : ℕ) → s ≤ t + reach → t ≤ s + reach → Before (s % counter) (t % counter) ↔ (s < t)
 rolls-over = counters.rolls-over
 
+-- Request 2/14: "a negated literal over an unsolved predicate is always valid",
+pub always-valid : (J : Job) (q : ℕ) (ts : List Term) → T (open? (J .rule) q) → (θ : Choice) → Holds J θ (test (negated q) ts)
+always-valid = unsolved.always-valid
+
+-- "it still costs one test": wherever it stands, the plain search counts one and goes on, with whatever rows were laid before it,
+pub one-plain : (J : Job) (q : ℕ) (ts : List Term) → T (open? (J .rule) q) → (i : ℕ) → itemAt (J .rule) i ≡ test (negated q) ts
+    → (d : ℕ) (rows : List ℕ) → plain J (suc d) i rows ≡ suc (plain J d (suc i) (rows ++ (0 ∷ [])))
+one-plain = unsolved.one-plain
+
+-- and so does the walk, in whatever state it is due there,
+pub one-walk : (J : Job) (q : ℕ) (ts : List Term) → T (open? (J .rule) q) → (i : ℕ) → itemAt (J .rule) i ≡ test (negated q) ts
+    → (lent : ℕ) (st : State) → st .position ≡ i → makeTest J lent st ≡ enter J lent (suc (st .position)) (tested st .next) (st .marks) (suc (st .tests)) (st .entries)
+one-walk = unsolved.one-walk
+
 -- From here on J is what the bytes were accepted as: any accepted job.
 module _ (bytes : List ℕ) (J : Job) (is : reading bytes ≡ accepted J) where
   -- Demand 1: an accepted job has declared predicates, as many terms as their arities, variables 0 to 15, and bound variables as 9 and 10 ask.
   pub accepted-safe : Sound J
   accepted-safe = read.accepted-sound bytes J is
+
+  -- Request 2/14: "and its variables are still relevant".
+  pub still-relevant : (q : ℕ) (ts : List Term) → T (open? (J .rule) q) → List·Memᴰ (test (negated q) ts) (J .rule .body) → (v : ℕ) → List·Memᴰ v (varsOf ts) → List·Memᴰ v (relevant (J .rule))
+  still-relevant q ts mark = unsolved.still-relevant J q ts mark accepted-safe
 
   -- Demand 2: there is a list that the document asks for,
   pub listing-exists : (L : List Instance) × Listing J L

@@ -1,4 +1,5 @@
--- Document 01, "Cases": the cases marked P, over the bytes, six jobs that tell wrong walks apart, and the cases of request 1/14. One table, one statement.
+-- Document 01, "Cases": the cases marked P, over the bytes, six jobs that tell wrong walks apart, and the cases of requests 1/14 and 2/14. One table,
+-- one statement.
 use mathlib.Core.Path.{_≡_}
 use mathlib.Core.List.{List, [], _∷_, _++_, map, flatten}
 use mathlib.Core.Option.{Option, none, some}
@@ -88,6 +89,9 @@ head p terms = field 3 ((p ∷ []) ∷ terms)
 abbrev literal : ℕ → List (List ℕ) → List ℕ
 literal p terms = field 4 ((0 ∷ p ∷ []) ∷ terms)
 
+abbrev negated : ℕ → List (List ℕ) → List ℕ
+negated p terms = field 4 ((1 ∷ p ∷ []) ∷ terms)
+
 -- the bytes of fields in a row
 abbrev job : List (List ℕ) → List ℕ
 job fields = flatten fields
@@ -136,6 +140,10 @@ holding tag m k = list (field tag (n m ∷ n k ∷ [])) ((1 ∷ []) ∷ []) comp
 
 abbrev failing : ℕ → ℕ → ℕ → Case
 failing tag m k = list (field tag (n m ∷ n k ∷ [])) [] complete 1 1
+
+-- e(1), e(2) and m(1), with these heads and the body e(V0), not m(V0); e is predicate 0, m 1 as it is declared here, h 2
+abbrev stops : List ℕ → List (List ℕ) → List ℕ
+stops m heads = job (solved 1 ∷ m ∷ unsolved 1 ∷ r 0 1 ∷ r 0 2 ∷ r 1 1 ∷ flatten heads ∷ l 0 0 ∷ negated 1 (v 0 ∷ []) ∷ [])
 
 abbrev pub table : List Case
 table =
@@ -199,4 +207,12 @@ table =
     ∷ refusedCase (field 7 (n 0 ∷ n 1 ∷ [])) 3 0
     -- "9 covers tag 6"
     ∷ refusedCase (field 6 (n 0 ∷ v 0 ∷ [])) 9 0
+    -- request 2/14: h(V0) if e(V0) and not m(V0), with m unsolved: row m(1) does not kill V0 = 1, and each "not" is one test;
+    ∷ list (stops (unsolved 1) (h 2 0 ∷ [])) ((2 ∷ 1 ∷ 0 ∷ []) ∷ (4 ∷ 2 ∷ 1 ∷ []) ∷ []) complete 4 4
+    -- with m solved it does
+    ∷ list (stops (solved 1) (h 2 0 ∷ [])) ((4 ∷ 2 ∷ 1 ∷ []) ∷ []) complete 4 4
+    -- the same with no head: V0 is relevant by the literal over m alone,
+    ∷ list (stops (unsolved 1) []) ((2 ∷ 1 ∷ 0 ∷ []) ∷ (4 ∷ 2 ∷ 1 ∷ []) ∷ []) complete 4 4
+    -- and with m solved nothing is
+    ∷ list (stops (solved 1) []) ((4 ∷ 1 ∷ []) ∷ []) complete 4 4
     ∷ []
