@@ -1,16 +1,25 @@
-// The one public call: a job's bytes, an allowance of tests and the lent cells of the list.
+// The public calls: a job's bytes, an allowance of tests and the lent cells of the list, by the walk or by the plain engine.
 ghost use mathlib.Core.Path.{_≡_};
+ghost use lib.ListN.{length};
+ghost use Rattle.meaning.specs.Job.{Job, Sound};
 ghost use Rattle.meaning.specs.Reading.{reading};
-ghost use Rattle.meaning.specs.Ground.{ground as grounding};
-ghost use Rattle.walk.specs.Ran.{endedOf};
-ghost use Rattle.ground.specs.Answer.{answerOf, grounded};
+ghost use Rattle.meaning.specs.Ground.{groundBy, ground as grounding, plainGround};
+ghost use Rattle.rule.specs.Rule.{ruleOf};
+ghost use Rattle.plan.specs.Plan.{planOf};
+ghost use Rattle.walk.specs.Stands.{Stands};
+ghost use Rattle.walk.specs.Ran.{Ran, endedOf};
+ghost use Rattle.ground.specs.Answer.{answerOf, grounded, engineOf};
 ghost use Rattle.ground.specs.Shape.{shapeOf};
 use job::fault::Verdict;
 use job::fault::number;
 use job::reading::read_job;
+use plain::search;
+use plan::tables::Plan;
 use plan::tables::plan_of;
 use rule::CELL_LIMIT;
 use rule::INDEX_LIMIT;
+use rule::PREDICATE_LIMIT;
+use rule::Rule;
 use rule::VARIABLE_LIMIT;
 use walk::run::Ended;
 use walk::run::run;
@@ -33,8 +42,29 @@ fn ending(ended: Ended) -> Answer
     }
 }
 
-pub fn ground(job: &[u8], allowance: u32, list: &mut [u32]) -> Answer
-    ensures { λ r. ⌜ grounded r (now (list .exit)) ≡ grounding (now (job .entry)) allowance (now (list .entry)) ⌝ }
+// A run of the plain engine of request 3/14, or of the jumping walk.
+fn run_by<'a>(
+    plain: bool,
+    rule: Rule,
+    plan: Plan,
+    rows: [usize; PREDICATE_LIMIT],
+    index: &'a [u16; INDEX_LIMIT],
+    cells: &'a [u32],
+    allowance: u32,
+    list: &mut [u32],
+) -> Ended
+    requires { ⌜ plan ≡ planOf (ruleOf rule) ⌝ }
+    ensures { λ r. ⌜ ((J : Job) → Sound J → Stands J rule rows (now (index .entry)) (now (cells .entry)) → Ran J (engineOf plain J allowance (length (now (list .entry)))) (now (list .entry)) (endedOf r) (now (list .exit))) ⌝ }
+{
+    if plain {
+        return search(rule, plan, rows, index, cells, allowance, list);
+    }
+    run(rule, plan, rows, index, cells, allowance, list)
+}
+
+// A job's answer by either engine: they take the same jobs, and refuse the same.
+pub fn ground_by(plain: bool, job: &[u8], allowance: u32, list: &mut [u32]) -> Answer
+    ensures { λ r. ⌜ grounded r (now (list .exit)) ≡ groundBy (engineOf plain) (now (job .entry)) allowance (now (list .entry)) ⌝ }
 {
     let mut cells = [0u32; CELL_LIMIT];
     let mut index = [0u16; INDEX_LIMIT];
@@ -47,7 +77,19 @@ pub fn ground(job: &[u8], allowance: u32, list: &mut [u32]) -> Answer
     let rule = made.rule;
     let rows = made.rows;
     let plan = plan_of(rule);
-    ending(run(rule, plan, rows, &index, &cells[..], allowance, list))
+    ending(run_by(plain, rule, plan, rows, &index, &cells[..], allowance, list))
+}
+
+pub fn ground(job: &[u8], allowance: u32, list: &mut [u32]) -> Answer
+    ensures { λ r. ⌜ grounded r (now (list .exit)) ≡ grounding (now (job .entry)) allowance (now (list .entry)) ⌝ }
+{
+    ground_by(false, job, allowance, list)
+}
+
+pub fn plain_ground(job: &[u8], allowance: u32, list: &mut [u32]) -> Answer
+    ensures { λ r. ⌜ grounded r (now (list .exit)) ≡ plainGround (now (job .entry)) allowance (now (list .entry)) ⌝ }
+{
+    ground_by(true, job, allowance, list)
 }
 
 // What the rule says of the list before any row is laid: the first `relevants` numbers are the relevant variables, by rising number, and an entry

@@ -7,16 +7,13 @@ use native.Mathlib.Nat.{suc-mul, mul-le-mul-right}
 use native.Mathlib.Omega.{arith}
 use lib.ListN.{length, take, drop, length-append, length-drop, length-map}
 use lib.Seq.{take-at, drop-at}
-use Rattle.meaning.specs.Job.{Item, positive, test, Job, size, Safe}
+use Rattle.meaning.specs.Job.{Item, positive, test, Job, size}
 use Rattle.meaning.specs.Relevant.{Instance, relevant, Listing}
 use Rattle.meaning.specs.Rows.{rowAt, value, values}
-use Rattle.meaning.specs.List.{Entry, complete, full, support, positives, entrySize, instanceOf, cells}
+use Rattle.meaning.specs.List.{Entry, complete, full, Searched, support, positives, entrySize, instanceOf, cells, cellsAfter}
 use Rattle.meaning.specs.Plain.{plainCount}
-use Rattle.meaning.specs.Walk.{walk, cellsAfter}
 use Rattle.meaning.proofs.Basics.{lt-or-le}
-use Rattle.meaning.proofs.Grow.{entries-fit}
-use Rattle.meaning.proofs.Room.{ample, completed, ample-complete, full-short, room-complete}
-use Rattle.meaning.proofs.Meaning.{complete-listing, entries-wide}
+use Rattle.meaning.proofs.Engine.{Lawful, ample, completed, ample-complete, full-short, room-complete}
 use Rattle.meaning.proofs.Unique.{one-listing}
 
 length-support : (b : List Item) (rs : List ℕ) → length rs ≡ length b → length (support b rs) ≡ positives b
@@ -42,44 +39,44 @@ module _ (J : Job) where
     suc-mul (length es) (entrySize (J .rule)),
   )
 
-  module _ (safe : Safe (J .rule)) where
+  module _ (E : ℕ → ℕ → Searched) (L : Lawful J E) where
     -- the complete answer lists the document's list
-    pub completed-listing : Listing J (map (instanceOf J) (completed J .entries))
-    completed-listing = complete-listing J safe (0 + plainCount J) (ample J 0) (ample-complete J 0 0)
+    pub completed-listing : Listing J (map (instanceOf J) (completed J E L .entries))
+    completed-listing = L .listing (0 + plainCount J) (ample J 0) (ample-complete J E L 0 0)
 
-    many : (L : List Instance) → Listing J L → length L ≡ length (completed J .entries)
-    many L l = ap length (one-listing J L (map (instanceOf J) (completed J .entries)) l completed-listing)
-        ∙ length-map (completed J .entries) (instanceOf J)
+    many : (M : List Instance) → Listing J M → length M ≡ length (completed J E L .entries)
+    many M l = ap length (one-listing J M (map (instanceOf J) (completed J E L .entries)) l completed-listing)
+        ∙ length-map (completed J E L .entries) (instanceOf J)
 
-    pub room-enough : (L : List Instance) → Listing J L → (a lent : ℕ) → plainCount J ≤ a → length L * entrySize (J .rule) ≤ lent → walk J a lent .ending ≡ complete
-    room-enough L l a lent h r = room-complete J a lent (0 + plainCount J) (ample J 0) (ample-complete J 0 0) h (subst (λ (n : ℕ). n * entrySize (J .rule) ≤ lent) (many L l) r)
+    pub room-enough : (M : List Instance) → Listing J M → (a lent : ℕ) → plainCount J ≤ a → length M * entrySize (J .rule) ≤ lent → E a lent .ending ≡ complete
+    room-enough M l a lent h r = room-complete J E L a lent (0 + plainCount J) (ample J 0) (ample-complete J E L 0 0) h (subst (λ (n : ℕ). n * entrySize (J .rule) ≤ lent) (many M l) r)
 
-    pub full-lacks : (L : List Instance) → Listing J L → (a lent : ℕ) → walk J a lent .ending ≡ full → length (walk J a lent .entries) < length L
-    full-lacks L l a lent q = elim (lt-or-le (length (walk J a lent .entries)) (length L)) [
+    pub full-lacks : (M : List Instance) → Listing J M → (a lent : ℕ) → E a lent .ending ≡ full → length (E a lent .entries) < length M
+    full-lacks M l a lent q = elim (lt-or-le (length (E a lent .entries)) (length M)) [
       | inl k ↦ k
       | inr k ↦ absurd (omega (
         arith,
-        full-short J a lent (0 + plainCount J) (ample J 0) (ample-complete J 0 0) q,
-        entries-fit J lent a,
-        mul-le-mul-right {m = length (completed J .entries)} {n = length (walk J a lent .entries)} (entrySize (J .rule)) (omega (arith, many L l)),
+        full-short J E L a lent (0 + plainCount J) (ample J 0) (ample-complete J E L 0 0) q,
+        L .fit a lent,
+        mul-le-mul-right {m = length (completed J E L .entries)} {n = length (E a lent .entries)} (entrySize (J .rule)) (omega (arith, many M l)),
       ))
     ]
 
     module _ (a : ℕ) (held : List ℕ) where
       abbrev es : List Entry
-      es = walk J a (length held) .entries
+      es = E a (length held) .entries
 
       abbrev filled : List ℕ
       filled = flatten (map (cells J) es)
 
       long : length filled ≡ length es * entrySize (J .rule)
-      long = length-entries es (entries-wide J safe a (length held))
+      long = length-entries es (L .wide a (length held))
 
-      pub cells-filled : take (length es * entrySize (J .rule)) (cellsAfter J a held) ≡ filled
+      pub cells-filled : take (length es * entrySize (J .rule)) (cellsAfter J (E a (length held)) held) ≡ filled
       cells-filled = take-at filled (drop (length filled) held) (length es * entrySize (J .rule)) long
 
-      pub cells-kept : drop (length es * entrySize (J .rule)) (cellsAfter J a held) ≡ drop (length es * entrySize (J .rule)) held
+      pub cells-kept : drop (length es * entrySize (J .rule)) (cellsAfter J (E a (length held)) held) ≡ drop (length es * entrySize (J .rule)) held
       cells-kept = drop-at filled (drop (length filled) held) (length es * entrySize (J .rule)) long ∙ ap (λ (n : ℕ). drop n held) long
 
-      pub cells-lent : length (cellsAfter J a held) ≡ length held
-      cells-lent = omega (arith, length-append filled (drop (length filled) held), length-drop (length filled) held, long, entries-fit J (length held) a)
+      pub cells-lent : length (cellsAfter J (E a (length held)) held) ≡ length held
+      cells-lent = omega (arith, length-append filled (drop (length filled) held), length-drop (length filled) held, long, L .fit a (length held))

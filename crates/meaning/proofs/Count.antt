@@ -4,7 +4,7 @@ use mathlib.Core.Bool.{Bool, true, false}
 use mathlib.Core.Logic.{inl, inr, _≢_}
 use mathlib.Core.List.{List, [], _∷_, _++_, append-nil}
 use mathlib.Core.Option.{Option, none, some}
-use Prim.Native.Nat.{ℕ, zero, suc, _+_, _-_, _*_, _≤_, _<_}
+use Prim.Native.Nat.{ℕ, zero, suc, _+_, _-_, _≤_, _<_}
 use native.Mathlib.Nat.{sub-zero}
 use native.Mathlib.Omega.{arith}
 use lib.ListN.{length, take, set, length-append, length-set}
@@ -12,11 +12,12 @@ use lib.Seq.{length-take-le, getD-take, take-suc, take-all, take-suc-set, append
 use lib.Dec.{ltb}
 use borrow.Author.Tests.{ltb-true, ltb-false}
 use Rattle.meaning.specs.Job.{Job, size}
-use Rattle.meaning.specs.Rows.{rowAt, values, fits, count}
-use Rattle.meaning.specs.List.{Entry, stopped, entrySize}
+use Rattle.meaning.specs.Rows.{rowAt, fits, count}
+use Rattle.meaning.specs.List.{Entry, stopped, Searched}
 use Rattle.meaning.specs.Plain.{sum, plain, plainCount}
-use Rattle.meaning.specs.Walk.{Walked, State, Turn, due, ended, nextAt, fitted, tested, setAll, After, wholeChoice, binds, variables, ranOut, back, goBack, goOn, listed, whole, enter, makeTest, start, steps, stop, walk}
+use Rattle.meaning.specs.Walk.{State, Turn, due, ended, nextAt, fitted, tested, setAll, After, wholeChoice, binds, variables, ranOut, back, goBack, goOn, whole, enter, makeTest, start, steps, stop, walk}
 use Rattle.meaning.proofs.Basics.{split, map-append, complete≢stopped, stopped≢full}
+use Rattle.meaning.proofs.Enlist.{enlisted, known, over, new}
 
 -- a list of next rows, up to position p, by its last
 
@@ -28,7 +29,7 @@ set-last next p k e = sym (take-all (suc p) (set next p k) (omega (arith, length
 
 module _ (J : Job) where
   -- what the plain search does with row k at position p
-  unfoldable cost : ℕ → ℕ → List ℕ → ℕ → ℕ
+  unfoldable pub cost : ℕ → ℕ → List ℕ → ℕ → ℕ
   cost d p rows k = suc (elim (fits J p (rowAt (rows ++ (k ∷ [])))) [ true ↦ plain J d (suc p) (rows ++ (k ∷ [])) | false ↦ 0 ])
 
   -- and with the rows there from k on
@@ -141,12 +142,10 @@ module _ (J : Job) where
       whole-counted : (next : List ℕ) (marks : List Bool) (es : List Entry) → size (J .rule) ≤ length next → t + rest 0 [] next ≤ plainCount J → Counted t (whole J lent next marks t es)
       unfolding whole
       whole-counted next marks es len h =
-          elim (split (listed J (values J (rowAt (fitted next))) es)) [
-            | inl e ↦ rw (e, whole) (goBack-counted wholeChoice (size (J .rule)) next (setAll marks) es (omega arith) len h)
-            | inr e ↦ elim (split (ltb (lent - length es * entrySize (J .rule)) (entrySize (J .rule)))) [
-              | inl c ↦ rw (e, c, whole) (refl, omega arith, λ q. stopped≢full (sym q))
-              | inr c ↦ rw (e, c, whole) (goBack-counted wholeChoice (size (J .rule)) next (setAll marks) _ (omega arith) len h)
-            ]
+          elim (enlisted J lent (fitted next) t es) [
+            | known u q ↦ rw (q, whole) (goBack-counted wholeChoice (size (J .rule)) next (setAll marks) es (omega arith) len h)
+            | over e n q ↦ rw (q, whole) (refl, omega arith, λ z. stopped≢full (sym z))
+            | new e r q ↦ rw (q, whole) (goBack-counted wholeChoice (size (J .rule)) next (setAll marks) _ (omega arith) len h)
           ]
 
       enter-counted : (p : ℕ) (next : List ℕ) (marks : List Bool) (es : List Entry) → p ≤ size (J .rule) → length next ≡ p → t + (rest 0 [] next + entering p (fitted next)) ≤ plainCount J
@@ -205,7 +204,7 @@ module _ (J : Job) where
       rows = ap fitted (set-last (st .next) p (suc k) (D .len)) ∙ map-append (λ (x : ℕ). x - 1) front (suc k ∷ []) ∙ ap (λ (x : ℕ). fitted front ++ (x ∷ [])) (omega arith)
 
   -- a walk stopped has made all its tests, and the plain search would make more
-  abbrev pub Made : ℕ → ℕ → Walked → Type 0
+  abbrev pub Made : ℕ → ℕ → Searched → Type 0
   Made t a r = (r .tests ≤ plainCount J) × (r .tests ≤ t + a) × (r .ending ≡ stopped → (r .tests ≡ t + a) × (r .tests < plainCount J))
 
   steps-made : (lent a t : ℕ) (x : Turn) → Counted t x → Made t a (stop (steps J lent a x))

@@ -1,4 +1,4 @@
--- From the walk of an accepted job to its answer and the lent cells: the entries can be read off the cells.
+-- From the search of an accepted job to its answer and the lent cells, with either engine: the entries can be read off the cells.
 use mathlib.Core.Path.{_≡_, refl, sym, ap, _∙_, subst}
 use mathlib.Core.List.{List, [], _∷_, _++_, map, flatten, append-assoc, List·Memᴰ, List·Memᴰ·head, List·Memᴰ·tail}
 use Prim.Native.Nat.{ℕ, zero, suc, _+_, _-_, _*_, _≤_, _<_}
@@ -6,29 +6,26 @@ use native.Mathlib.Nat.{suc-mul}
 use native.Mathlib.Omega.{arith}
 use lib.ListN.{length, take, drop, length-map}
 use lib.Seq.{take-at, drop-at, take-add}
-use Rattle.meaning.specs.Job.{Rule, Job, size, Safe}
+use Rattle.meaning.specs.Job.{Rule, Job}
 use Rattle.meaning.specs.Reading.{refused, accepted, reading}
 use Rattle.meaning.specs.Relevant.{Instance, relevant, Listing}
 use Rattle.meaning.specs.Rows.{rowAt, value, values}
-use Rattle.meaning.specs.List.{Entry, Ending, complete, stopped, full, support, entrySize, instanceOf, cells, written, entriesIn, instanceIn, Begins}
+use Rattle.meaning.specs.List.{Entry, Ending, complete, stopped, full, Searched, support, entrySize, instanceOf, cells, written, cellsAfter, entriesIn, instanceIn, Begins}
 use Rattle.meaning.specs.Plain.{plainCount}
-use Rattle.meaning.specs.Walk.{Walked, walk, cellsAfter}
-use Rattle.meaning.specs.Ground.{refusal, entriesOf, testsOf, Ended, answerOf, Grounded, ground, listOf, instancesOf}
+use Rattle.meaning.specs.Ground.{refusal, entriesOf, testsOf, Ended, answerOf, Grounded, Engine, groundBy, listOf, instancesOf}
 use Rattle.meaning.proofs.Basics.{map-append, mem-map}
-use Rattle.meaning.proofs.Reading.{accepted-sound}
-use Rattle.meaning.proofs.Meaning.{complete-listing as walk-listing, entries-wide}
-use Rattle.meaning.proofs.Count.{tests-made}
-use Rattle.meaning.proofs.Grow.{more-allowance, same-answer, full-over}
-use Rattle.meaning.proofs.Room.{beginning as walk-beginning, complete-one as walk-one}
+use Rattle.meaning.proofs.Engine.{Lawful, beginning as search-beginning, complete-one as search-one}
 use Rattle.meaning.proofs.Answers.{length-cells, completed-listing, room-enough, full-lacks, cells-kept, cells-lent}
 
-pub ground-refused : (bytes : List ℕ) (number place : ℕ) → reading bytes ≡ refused number place → (a : ℕ) (held : List ℕ) → ground bytes a held ≡ record { answer = refusal number place; cells = held }
-unfolding ground
-ground-refused bytes number place e a held = rw (e, ground) refl
+pub ground-refused : (engine : Engine) (bytes : List ℕ) (number place : ℕ) → reading bytes ≡ refused number place → (a : ℕ) (held : List ℕ)
+    → groundBy engine bytes a held ≡ record { answer = refusal number place; cells = held }
+unfolding groundBy
+ground-refused engine bytes number place e a held = rw (e, groundBy) refl
 
-pub ground-accepted : (bytes : List ℕ) (J : Job) → reading bytes ≡ accepted J → (a : ℕ) (held : List ℕ) → ground bytes a held ≡ record { answer = answerOf (walk J a (length held)); cells = cellsAfter J a held }
-unfolding ground
-ground-accepted bytes J e a held = rw (e, ground) refl
+pub ground-accepted : (engine : Engine) (bytes : List ℕ) (J : Job) → reading bytes ≡ accepted J → (a : ℕ) (held : List ℕ)
+    → let s = engine J a (length held) in groundBy engine bytes a held ≡ record { answer = answerOf s; cells = cellsAfter J s held }
+unfolding groundBy
+ground-accepted engine bytes J e a held = rw (e, groundBy) refl
 
 -- entries of one size, read off the cells that they fill
 entries-in : (R : Rule) (ls : List (List ℕ)) (rest : List ℕ) → ((l : List ℕ) → List·Memᴰ l ls → length l ≡ entrySize R) → entriesIn R (length ls) (flatten ls ++ rest) ≡ ls
@@ -66,71 +63,72 @@ module _ (J : Job) where
       let d = drop-at v (support (J .rule .body) (e .rows)) (length (relevant (J .rule))) n in
       λ i. record { values = t i; support = d i }
 
-  module _ (bytes : List ℕ) (is : reading bytes ≡ accepted J) (a : ℕ) (held : List ℕ) where
-    abbrev es : List Entry
-    es = walk J a (length held) .entries
-
-    -- the list in the cells is the walk's
-    pub list-is : listOf (J .rule) (ground bytes a held) ≡ map (cells J) es
-    list-is =
-        rw (ground-accepted bytes J is a held, ← length-map es (cells J))
-        (entries-in (J .rule) (map (cells J) es) (drop (length (flatten (map (cells J) es))) held)
-        (all-map (λ (l : List ℕ). length l ≡ entrySize (J .rule)) (cells J) es (λ e at. length-cells J e (entries-wide J (accepted-sound bytes J is .safe) a (length held) e at))))
-
-    pub instances-are : instancesOf (J .rule) (ground bytes a held) ≡ map (instanceOf J) es
-    instances-are = ap (map (instanceIn (J .rule))) list-is ∙ map-map-same (instanceIn (J .rule)) (cells J) (instanceOf J) es (λ e at. instance-is e)
-
-module _ (J : Job) (bytes : List ℕ) (is : reading bytes ≡ accepted J) where
-  safe : Safe (J .rule)
-  safe = accepted-sound bytes J is .safe
-
-  -- the answer and the cells, by the walk
+module _ (engine : Engine) (J : Job) (L : Lawful J (engine J)) (bytes : List ℕ) (is : reading bytes ≡ accepted J) where
+  -- the answer and the cells, by the engine
   module _ (a : ℕ) (held : List ℕ) where
-    answer-is : ground bytes a held .answer ≡ answerOf (walk J a (length held))
-    answer-is = ap (λ (g : Grounded). g .answer) (ground-accepted bytes J is a held)
+    abbrev es : List Entry
+    es = engine J a (length held) .entries
 
-    ends : (e : Ending) → Ended e (ground bytes a held .answer) → walk J a (length held) .ending ≡ e
+    answer-is : groundBy engine bytes a held .answer ≡ answerOf (engine J a (length held))
+    answer-is = ap (λ (g : Grounded). g .answer) (ground-accepted engine bytes J is a held)
+
+    ends : (e : Ending) → Ended e (groundBy engine bytes a held .answer) → engine J a (length held) .ending ≡ e
     ends e t = subst (Ended e) answer-is t
 
-  pub listing-exists : (L : List Instance) × Listing J L
-  listing-exists = (_, completed-listing J safe)
+    -- the list in the cells is the engine's
+    pub list-is : listOf (J .rule) (groundBy engine bytes a held) ≡ map (cells J) es
+    list-is =
+        rw (ground-accepted engine bytes J is a held, ← length-map es (cells J))
+        (entries-in (J .rule) (map (cells J) es) (drop (length (flatten (map (cells J) es))) held)
+        (all-map (λ (l : List ℕ). length l ≡ entrySize (J .rule)) (cells J) es (λ e at. length-cells J e (L .wide a (length held) e at))))
 
-  pub complete-listing : (a : ℕ) (held : List ℕ) → Ended complete (ground bytes a held .answer) → Listing J (instancesOf (J .rule) (ground bytes a held))
-  complete-listing a held t = subst (Listing J) (sym (instances-are J bytes is a held)) (walk-listing J safe a (length held) (ends a held complete t))
+    pub instances-are : instancesOf (J .rule) (groundBy engine bytes a held) ≡ map (instanceOf J) es
+    instances-are = ap (map (instanceIn (J .rule))) list-is ∙ map-map-same (instanceIn (J .rule)) (cells J) (instanceOf J) es (λ e at. instance-is J e)
 
-  pub beginning : (a a′ : ℕ) (held held′ : List ℕ) → Ended complete (ground bytes a′ held′ .answer) → Begins (listOf (J .rule) (ground bytes a held)) (listOf (J .rule) (ground bytes a′ held′))
-  beginning a a′ held held′ t = rw (list-is J bytes is a held, list-is J bytes is a′ held′)
-      (begins-map (cells J) (walk J a (length held) .entries) (walk J a′ (length held′) .entries) (walk-beginning J a (length held) a′ (length held′) (ends a′ held′ complete t)))
+  pub listing-exists : (M : List Instance) × Listing J M
+  listing-exists = (_, completed-listing J (engine J) L)
 
-  pub complete-one : (a a′ : ℕ) (held held′ : List ℕ) → Ended complete (ground bytes a held .answer) → Ended complete (ground bytes a′ held′ .answer)
-      → (ground bytes a held .answer ≡ ground bytes a′ held′ .answer) × (listOf (J .rule) (ground bytes a held) ≡ listOf (J .rule) (ground bytes a′ held′))
+  pub complete-listing : (a : ℕ) (held : List ℕ) → Ended complete (groundBy engine bytes a held .answer) → Listing J (instancesOf (J .rule) (groundBy engine bytes a held))
+  complete-listing a held t = subst (Listing J) (sym (instances-are a held)) (L .listing a (length held) (ends a held complete t))
+
+  pub beginning : (a a′ : ℕ) (held held′ : List ℕ) → Ended complete (groundBy engine bytes a′ held′ .answer) → Begins (listOf (J .rule) (groundBy engine bytes a held)) (listOf (J .rule) (groundBy engine bytes a′ held′))
+  beginning a a′ held held′ t = rw (list-is a held, list-is a′ held′)
+      (begins-map (cells J) (engine J a (length held) .entries) (engine J a′ (length held′) .entries) (search-beginning J (engine J) L a (length held) a′ (length held′) (ends a′ held′ complete t)))
+
+  pub complete-one : (a a′ : ℕ) (held held′ : List ℕ) → Ended complete (groundBy engine bytes a held .answer) → Ended complete (groundBy engine bytes a′ held′ .answer)
+      → (groundBy engine bytes a held .answer ≡ groundBy engine bytes a′ held′ .answer) × (listOf (J .rule) (groundBy engine bytes a held) ≡ listOf (J .rule) (groundBy engine bytes a′ held′))
   complete-one a a′ held held′ t t′ =
-      let q = walk-one J a (length held) a′ (length held′) (ends a held complete t) (ends a′ held′ complete t′) in
-      (answer-is a held ∙ ap answerOf q ∙ sym (answer-is a′ held′), list-is J bytes is a held ∙ ap (λ (w : Walked). map (cells J) (w .entries)) q ∙ sym (list-is J bytes is a′ held′))
+      let q = search-one J (engine J) L a (length held) a′ (length held′) (ends a held complete t) (ends a′ held′ complete t′) in
+      (answer-is a held ∙ ap answerOf q ∙ sym (answer-is a′ held′), list-is a held ∙ ap (λ (s : Searched). map (cells J) (s .entries)) q ∙ sym (list-is a′ held′))
 
-  pub longer : (a more : ℕ) (held : List ℕ) → Begins (listOf (J .rule) (ground bytes a held)) (listOf (J .rule) (ground bytes (a + more) held))
-  longer a more held = rw (list-is J bytes is a held, list-is J bytes is (a + more) held) (begins-map (cells J) (walk J a (length held) .entries) (walk J (a + more) (length held) .entries) (more-allowance J (length held) a more))
+  pub longer : (a more : ℕ) (held : List ℕ) → Begins (listOf (J .rule) (groundBy engine bytes a held)) (listOf (J .rule) (groundBy engine bytes (a + more) held))
+  longer a more held = rw (list-is a held, list-is (a + more) held) (begins-map (cells J) (engine J a (length held) .entries) (engine J (a + more) (length held) .entries) (L .more-allowance a more (length held)))
 
-  pub settled : (a more : ℕ) (held : List ℕ) → (Ended stopped (ground bytes a held .answer) → ⊥) → ground bytes (a + more) held ≡ ground bytes a held
+  pub settled : (a more : ℕ) (held : List ℕ) → (Ended stopped (groundBy engine bytes a held .answer) → ⊥) → groundBy engine bytes (a + more) held ≡ groundBy engine bytes a held
   settled a more held t =
-      let q = same-answer J (length held) a more (λ e. t (subst (Ended stopped) (sym (answer-is a held)) e)) in
-      ground-accepted bytes J is (a + more) held ∙ (λ i. record { answer = answerOf (q i); cells = written (map (cells J) (q i .entries)) held }) ∙ sym (ground-accepted bytes J is a held)
+      let q = L .same-answer a more (length held) (λ e. t (subst (Ended stopped) (sym (answer-is a held)) e)) in
+      ground-accepted engine bytes J is (a + more) held ∙ (λ i. record { answer = answerOf (q i); cells = written (map (cells J) (q i .entries)) held }) ∙ sym (ground-accepted engine bytes J is a held)
 
-  pub tests-bound : (a : ℕ) (held : List ℕ) → let r = ground bytes a held .answer in
+  pub tests-bound : (a : ℕ) (held : List ℕ) → let r = groundBy engine bytes a held .answer in
       (testsOf r ≤ plainCount J) × (testsOf r ≤ a) × (Ended stopped r → (testsOf r ≡ a) × (a < plainCount J))
-  tests-bound a held = let m = tests-made J a (length held) in rw (answer-is a held) (m .0, omega (arith, m .1), λ q. omega (arith, m .2 q))
+  tests-bound a held = let m = L .made a (length held) in rw (answer-is a held) (m .0, omega (arith, m .1), λ q. omega (arith, m .2 q))
 
-  pub plain-suffices : (L : List Instance) → Listing J L → (a : ℕ) (held : List ℕ) → plainCount J ≤ a → length L * entrySize (J .rule) ≤ length held → Ended complete (ground bytes a held .answer)
-  plain-suffices L l a held h r = rw (answer-is a held) (room-enough J safe L l a (length held) h r)
+  -- what a complete search's tests are, a complete answer's are
+  pub tests-are : (n a : ℕ) (held : List ℕ) → (engine J a (length held) .ending ≡ complete → engine J a (length held) .tests ≡ n)
+      → let r = groundBy engine bytes a held .answer in Ended complete r → testsOf r ≡ n
+  tests-are n a held h = rw (answer-is a held) h
 
-  pub full-at : (L : List Instance) → Listing J L → (a : ℕ) (held : List ℕ) → let r = ground bytes a held .answer in
-      Ended full r → (entriesOf r < length L) × (length held - entriesOf r * entrySize (J .rule) < entrySize (J .rule))
-  full-at L l a held = rw (answer-is a held) (λ q. (full-lacks J safe L l a (length held) q, full-over J (length held) a q))
+  pub plain-suffices : (M : List Instance) → Listing J M → (a : ℕ) (held : List ℕ) → plainCount J ≤ a → length M * entrySize (J .rule) ≤ length held → Ended complete (groundBy engine bytes a held .answer)
+  plain-suffices M l a held h r = rw (answer-is a held) (room-enough J (engine J) L M l a (length held) h r)
 
-  pub cells-after : (a : ℕ) (held : List ℕ) → let g = ground bytes a held in let n = entriesOf (g .answer) * entrySize (J .rule) in
+  pub full-at : (M : List Instance) → Listing J M → (a : ℕ) (held : List ℕ) → let r = groundBy engine bytes a held .answer in
+      Ended full r → (entriesOf r < length M) × (length held - entriesOf r * entrySize (J .rule) < entrySize (J .rule))
+  full-at M l a held = rw (answer-is a held) (λ q. (full-lacks J (engine J) L M l a (length held) q, L .over a (length held) q))
+
+  pub cells-after : (a : ℕ) (held : List ℕ) → let g = groundBy engine bytes a held in let n = entriesOf (g .answer) * entrySize (J .rule) in
       (take n (g .cells) ≡ flatten (listOf (J .rule) g)) × (drop n (g .cells) ≡ drop n held) × (length (g .cells) ≡ length held)
   cells-after a held = (
-    sym (entries-flat (J .rule) (entriesOf (ground bytes a held .answer)) (ground bytes a held .cells)),
-    rw (ground-accepted bytes J is a held) (cells-kept J safe a held),
-    rw (ground-accepted bytes J is a held) (cells-lent J safe a held),
+    sym (entries-flat (J .rule) (entriesOf (groundBy engine bytes a held .answer)) (groundBy engine bytes a held .cells)),
+    rw (ground-accepted engine bytes J is a held) (cells-kept J (engine J) L a held),
+    rw (ground-accepted engine bytes J is a held) (cells-lent J (engine J) L a held),
   )

@@ -8,6 +8,7 @@ pub mod Group
 pub mod Local
 pub mod Unsolved
 pub mod Jump
+pub mod Enlist
 pub mod Order
 pub mod Walk
 pub mod Meaning
@@ -15,6 +16,11 @@ pub mod Unique
 pub mod Count
 pub mod Grow
 pub mod Room
+pub mod Engine
+pub mod Plain
+pub mod PlainTests
+pub mod PlainMore
+pub mod PlainList
 pub mod Answers
 pub mod Ground
 pub mod Promises

@@ -204,7 +204,7 @@ module _ (J : Job) where
     )
 
     -- a list in order, with every instance, is the document's
-    listed-listing : (es : List Entry) → Listed J es → ((s : Rows) → AllGood J s → Known J es (values J s)) → Listing J (map (instanceOf J) es)
+    pub listed-listing : (es : List Entry) → Listed J es → ((s : Rows) → AllGood J s → Known J es (values J s)) → Listing J (map (instanceOf J) es)
     listed-listing es l all = record {
       each = λ x at. let w = mem-map (instanceOf J) es x at in
           subst (λ (z : Instance). (θ : Choice) × Valid J θ × Supports J θ (J .rule .body) (z .support) × (z .values ≡ cut (J .rule) θ)) (sym (w .2)) (

@@ -1,7 +1,8 @@
 -- The list in the walk: rows in their order, what is listed so far, and that it comes before the cursor.
 use mathlib.Core.Path.{_≡_, refl, sym, ap, _∙_, subst}
+use mathlib.Core.Bool.{false}
 use mathlib.Core.Logic.{_⊎_, inl, inr}
-use mathlib.Core.List.{List, [], _∷_, _++_, List·Memᴰ, List·Memᴰ·head, List·Memᴰ·tail, List·Memᴰ·not-nil, List·Memᴰ·eq-of-singleton, List·Memᴰ·append-cases}
+use mathlib.Core.List.{List, [], _∷_, _++_, List·Memᴰ, List·Memᴰ·head, List·Memᴰ·tail, List·Memᴰ·not-nil, List·Memᴰ·eq-of-singleton, Memᴰ·append-left, Memᴰ·append-right, List·Memᴰ·append-cases}
 use Prim.Native.Nat.{ℕ, suc, _≤_, _<_}
 use native.Mathlib.Omega.{arith}
 use lib.ListN.{length}
@@ -9,10 +10,10 @@ use lib.Dec.{T}
 use Rattle.meaning.specs.Basics.{same}
 use Rattle.meaning.specs.Job.{Job, size}
 use Rattle.meaning.specs.Rows.{Rows, rowAt, values}
-use Rattle.meaning.specs.List.{Entry}
-use Rattle.meaning.specs.Walk.{listed}
-use Rattle.meaning.proofs.Basics.{lt-or-le, any-mem, mem-any, same→eq, eq→same}
-use Rattle.meaning.proofs.Jump.{Agree, AllGood}
+use Rattle.meaning.specs.List.{Entry, listed}
+use Rattle.meaning.proofs.Basics.{not-T, lt-or-le, any-mem, mem-any, same→eq, eq→same}
+use Rattle.meaning.proofs.Enlist.{with}
+use Rattle.meaning.proofs.Jump.{Agree, AllGood, Cover}
 
 -- s comes before t, by the first position before n where they differ
 abbrev pub Before : Rows → Rows → ℕ → Type 0
@@ -81,12 +82,12 @@ module _ (J : Job) where
   unfolding listed
   listed-known vs es t = let r = any-mem (λ (e : Entry). same (values J (rowAt (e .rows))) vs) es t in (r .0, r .1, same→eq _ _ (r .2))
 
-  pub known-listed : (vs : List ℕ) (es : List Entry) → Known es vs → T (listed J vs es)
+  known-listed : (vs : List ℕ) (es : List Entry) → Known es vs → T (listed J vs es)
   unfolding listed
   known-listed vs es k = mem-any (λ (e : Entry). same (values J (rowAt (e .rows))) vs) es (k .0) (k .1) (eq→same _ _ (k .2))
 
   -- a whole choice whose values are new is listed in its place
-  pub listed-snoc : (es : List Entry) (e : Entry) → Listed es → length (e .rows) ≡ size (J .rule) → AllGood J (rowAt (e .rows)) → Past es (rowAt (e .rows)) (size (J .rule))
+  listed-snoc : (es : List Entry) (e : Entry) → Listed es → length (e .rows) ≡ size (J .rule) → AllGood J (rowAt (e .rows)) → Past es (rowAt (e .rows)) (size (J .rule))
       → ((s : Rows) → AllGood J s → values J s ≡ values J (rowAt (e .rows)) → Before s (rowAt (e .rows)) (size (J .rule)) → ⊥) → Listed (es ++ (e ∷ []))
   listed-snoc es e l len v past new = record {
     wide = λ f at. elim (List·Memᴰ·append-cases es at) [ inl q ↦ l .wide f q | inr q ↦ ap (λ (x : Entry). length (x .rows)) (List·Memᴰ·eq-of-singleton q) ∙ len ];
@@ -97,3 +98,23 @@ module _ (J : Job) where
     ];
     rising = rising-snoc es e (l .rising) past;
   }
+
+  -- with a new whole choice, which comes after all that is listed
+
+  module _ (es : List Entry) (tests : ℕ) (rows : List ℕ) where
+    pub known-with : {vs : List ℕ} → Known es vs → Known (with es tests rows) vs
+    known-with k = (k .0, Memᴰ·append-left (record { tests = tests; rows = rows } ∷ []) (k .1), k .2)
+
+    pub known-new : Known (with es tests rows) (values J (rowAt rows))
+    known-new = (record { tests = tests; rows = rows }, Memᴰ·append-right es (List·Memᴰ·head refl), refl)
+
+    pub past-with : Past es (rowAt rows) (size (J .rule)) → AtOrPast (with es tests rows) (rowAt rows) (size (J .rule))
+    past-with past f at = elim (List·Memᴰ·append-cases es at) [
+      | inl q ↦ inr (past f q)
+      | inr q ↦ inl (λ i h. ap (λ (x : Entry). rowAt (x .rows) i) (List·Memᴰ·eq-of-singleton q))
+    ]
+
+    pub listed-with : Listed es → length rows ≡ size (J .rule) → AllGood J (rowAt rows) → Past es (rowAt rows) (size (J .rule)) → Cover J (rowAt rows) (Known es) (size (J .rule))
+        → listed J (values J (rowAt rows)) es ≡ false → Listed (with es tests rows)
+    listed-with l len good past cover e = listed-snoc es (record { tests = tests; rows = rows }) l len good past
+        (λ s u w be. let k = cover s u (be .0) (be .1) (be .2) (be .3) in not-T e (known-listed (values J (rowAt rows)) es (k .0, k .1, k .2 ∙ w)))

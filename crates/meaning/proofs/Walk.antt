@@ -1,10 +1,10 @@
 -- The invariant of the walk, and what a walk that ends has listed.
-use mathlib.Core.Path.{_≡_, refl, sym, ap, _∙_, subst}
+use mathlib.Core.Path.{_≡_, refl, sym, _∙_, subst}
 use mathlib.Core.Bool.{Bool, true, false}
 use mathlib.Core.Logic.{inl, inr}
-use mathlib.Core.List.{List, [], _∷_, _++_, List·Memᴰ·head, List·Memᴰ·not-nil, List·Memᴰ·eq-of-singleton, Memᴰ·append-left, Memᴰ·append-right, List·Memᴰ·append-cases}
+use mathlib.Core.List.{List, [], _∷_, _++_, List·Memᴰ·not-nil}
 use mathlib.Core.Option.{Option, none, some}
-use Prim.Native.Nat.{ℕ, zero, suc, _-_, _*_, _≤_, _<_}
+use Prim.Native.Nat.{ℕ, zero, suc, _-_, _≤_, _<_}
 use native.Mathlib.Nat.{le-of-suc-le-suc, not-suc-le-zero}
 use native.Mathlib.Omega.{arith}
 use lib.ListN.{length, take, set, length-append, length-set, length-map, length-take, List·getD-eq-default, List·getD-append, List·getD-map}
@@ -13,13 +13,14 @@ use lib.Dec.{T, ltb}
 use borrow.Author.Tests.{ltb-true, ltb-false}
 use Rattle.meaning.specs.Job.{Job, size, Safe}
 use Rattle.meaning.specs.Rows.{Rows, rowAt, values, fits, count}
-use Rattle.meaning.specs.List.{Entry, complete, stopped, full, entrySize}
-use Rattle.meaning.specs.Walk.{State, Turn, due, ended, nextAt, markAt, fitted, tested, setAll, After, wholeChoice, nothingFits, variables, ranOut, back, goBack, goOn, listed, whole, enter, makeTest, start, steps}
+use Rattle.meaning.specs.List.{Entry, complete, stopped, full}
+use Rattle.meaning.specs.Walk.{State, Turn, due, ended, nextAt, markAt, fitted, tested, setAll, After, wholeChoice, nothingFits, variables, ranOut, back, goBack, goOn, whole, enter, makeTest, start, steps}
 use Rattle.meaning.proofs.Basics.{split, is-T, not-T, lt-or-le}
 use Rattle.meaning.proofs.Group.{group-self}
 use Rattle.meaning.proofs.Local.{binds-le}
 use Rattle.meaning.proofs.Jump.{Agree, agree-suc, Good, AllGood, GroupGood, good-local, Cover, FailAt, Nested, Reason, Landed, reason-whole, reason-nothing, reason-out, back-sound}
-use Rattle.meaning.proofs.Order.{Known, Listed, listed-none, Past, AtOrPast, move-past, listed-known, known-listed, listed-snoc}
+use Rattle.meaning.proofs.Enlist.{enlisted, known, over, new, with}
+use Rattle.meaning.proofs.Order.{Known, Listed, listed-none, Past, AtOrPast, move-past, listed-known, known-with, known-new, listed-with, past-with}
 
 -- next rows
 
@@ -92,10 +93,10 @@ module _ (J : Job) (safe : Safe (J .rule)) where
     agree-back : (s : Rows) (i : ℕ) → i ≤ t → Agree s b i → Agree s a i
     agree-back s i l agree k h = agree k h ∙ stay k (omega arith)
 
-    move-path : t ≤ size (J .rule) → ((i : ℕ) → i < t → Good J a i) → (i : ℕ) → i < t → Good J b i
+    pub move-path : t ≤ size (J .rule) → ((i : ℕ) → i < t → Good J a i) → (i : ℕ) → i < t → Good J b i
     move-path small path i l = good-local J i a b (sym (stay i l)) (λ k n. sym (stay k (let q = binds-le (J .rule) safe i k (omega arith) n in omega arith))) (path i l)
 
-    move-cover : (K : List ℕ → Type 0) → Cover J a K t → ((s : Rows) → AllGood J s → Agree s a t → s t < b t → K (values J s)) → Cover J b K (suc t)
+    pub move-cover : (K : List ℕ → Type 0) → Cover J a K t → ((s : Rows) → AllGood J s → Agree s a t → s t < b t → K (values J s)) → Cover J b K (suc t)
     move-cover K cover here s v i l agree h =
         elim (lt-or-le i t) [
           | inl z ↦ cover s v i z (agree-back s i (omega arith) agree) (subst (λ (x : ℕ). s i < x) (stay i z) h)
@@ -213,29 +214,17 @@ module _ (J : Job) (safe : Safe (J .rule)) where
         → Past J es (rowAt (fitted next)) (size (J .rule)) → Fine (whole J lent next marks tests es)
     unfolding whole
     whole-fine next marks tests es len B past =
-        elim (split (listed J (values J a) es)) [
-          | inl e ↦ rw (e, whole) (back-from es (B .cover) (B .listing) (λ f at. inr (past f at)) (listed-known J _ es (is-T e)))
-          | inr e ↦ elim (split (ltb (lent - length es * entrySize (J .rule)) (entrySize (J .rule)))) [
-            | inl c ↦ rw (e, c, whole) (B .listing)
-            | inr c ↦ rw (e, c, whole) (back-from (es ++ (new ∷ [])) (λ s u i h agree l. more (B .cover s u i h agree l))
-                (listed-snoc J es new (B .listing) (length-map next (λ (k : ℕ). k - 1) ∙ len) (B .path) past
-                (λ s u w be. let k = B .cover s u (be .0) (be .1) (be .2) (be .3) in not-T e (known-listed J (values J a) es (k .0, k .1, k .2 ∙ w))))
-                (λ f at. elim (List·Memᴰ·append-cases es at) [
-                  | inl q ↦ inr (past f q)
-                  | inr q ↦ inl (λ i h. ap (λ (x : Entry). rowAt (x .rows) i) (List·Memᴰ·eq-of-singleton q))
-                ])
-                (new, Memᴰ·append-right es (List·Memᴰ·head refl), refl))
-          ]
+        elim (enlisted J lent (fitted next) tests es) [
+          | known t q ↦ rw (q, whole) (back-from es (B .cover) (B .listing) (λ f at. inr (past f at)) (listed-known J _ es t))
+          | over e n q ↦ rw (q, whole) (B .listing)
+          | new e r q ↦ rw (q, whole) (back-from (with es tests (fitted next)) (λ s u i h agree l. known-with J es tests (fitted next) (B .cover s u i h agree l))
+              (listed-with J es tests (fitted next) (B .listing) (length-map next (λ (k : ℕ). k - 1) ∙ len) (B .path) past (B .cover) e)
+              (past-with J es tests (fitted next) past)
+              (known-new J es tests (fitted next)))
         ]
       where
         a : Rows
         a = rowAt (fitted next)
-
-        new : Entry
-        new = record { tests = tests; rows = fitted next }
-
-        more : {vs : List ℕ} → Known J es vs → Known J (es ++ (new ∷ [])) vs
-        more k = (k .0, Memᴰ·append-left (new ∷ []) (k .1), k .2)
 
         all : (i : ℕ) → i < size (J .rule) → T (markAt (setAll marks) i)
         all i h = set-mark marks i (omega (arith, B .wide))

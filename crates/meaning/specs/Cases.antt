@@ -1,5 +1,5 @@
--- Document 01, "Cases": the cases marked P, over the bytes, six jobs that tell wrong walks apart, and the cases of requests 1/14 and 2/14. One table,
--- one statement.
+-- Document 01, "Cases": the cases marked P, over the bytes, six jobs that tell wrong walks apart, and the cases of requests 1/14, 2/14 and 3/14. One
+-- table, one statement.
 use mathlib.Core.Path.{_≡_}
 use mathlib.Core.List.{List, [], _∷_, _++_, map, flatten}
 use mathlib.Core.Option.{Option, none, some}
@@ -8,7 +8,7 @@ use lib.ListN.{length, replicate}
 use Rattle.meaning.specs.Reading.{Reading, refused, accepted, reading}
 use Rattle.meaning.specs.List.{Ending, complete, stopped, full}
 use Rattle.meaning.specs.Plain.{plainCount}
-use Rattle.meaning.specs.Ground.{Answer, refusal, ran, ground}
+use Rattle.meaning.specs.Ground.{Answer, refusal, ran, Grounded, ground, plainGround}
 
 -- the answer, the lent cells after it, and the plain count of an accepted job
 pub record Outcome : Type 0 where
@@ -16,8 +16,9 @@ pub record Outcome : Type 0 where
   pub cells : List ℕ
   pub plain : Option ℕ
 
--- so many cells are lent, and each holds 7
+-- the call, by the walk or by the plain engine; so many cells are lent, and each holds 7
 pub record Case : Type 0 where
+  pub call : List ℕ → ℕ → List ℕ → Grounded
   pub bytes : List ℕ
   pub allowance : ℕ
   pub lent : ℕ
@@ -29,7 +30,7 @@ plainOf (accepted J) = some (plainCount J)
 
 abbrev pub outcome : Case → Outcome
 outcome c =
-    let g = ground (c .bytes) (c .allowance) (replicate (c .lent) 7) in
+    let g = c .call (c .bytes) (c .allowance) (replicate (c .lent) 7) in
     record { answer = g .answer; cells = g .cells; plain = plainOf (reading (c .bytes)) }
 
 abbrev pub Right : List Case → Type 0
@@ -38,6 +39,7 @@ Right cs = map outcome cs ≡ map (λ (c : Case). c .expected) cs
 -- An accepted job's case: its entries, cell by cell, its ending, its tests and its plain count. The cells after the entries keep their 7.
 abbrev case : List ℕ → ℕ → ℕ → List (List ℕ) → Ending → ℕ → ℕ → Case
 case bytes allowance lent entries ending tests plain = record {
+  call = ground;
   bytes = bytes;
   allowance = allowance;
   lent = lent;
@@ -54,11 +56,16 @@ list bytes = case bytes 1000000 4096
 
 abbrev refusedCase : List ℕ → ℕ → ℕ → Case
 refusedCase bytes number place = record {
+  call = ground;
   bytes = bytes;
   allowance = 1000000;
   lent = 4096;
   expected = record { answer = refusal number place; cells = replicate 4096 7; plain = none };
 }
+
+-- the same by the plain engine
+abbrev plainly : Case → Case
+plainly c = record { call = plainGround; bytes = c .bytes; allowance = c .allowance; lent = c .lent; expected = c .expected }
 
 -- The bytes of a field shorter than 256, and of its cells and terms.
 abbrev field : ℕ → List (List ℕ) → List ℕ
@@ -130,6 +137,9 @@ job3 = job (solved 1 ∷ solved 1 ∷ solved 2 ∷ unsolved 2 ∷ r 0 1 ∷ r 0 
 abbrev job4 : List (List ℕ) → List ℕ
 job4 heads = job (solved 1 ∷ solved 1 ∷ unsolved 1 ∷ r 0 1 ∷ r 0 2 ∷ r 1 5 ∷ r 1 6 ∷ r 1 7 ∷ flatten heads ∷ l 0 0 ∷ l 1 1 ∷ [])
 
+abbrev job11 : List ℕ
+job11 = job (solved 1 ∷ solved 1 ∷ solved 1 ∷ unsolved 2 ∷ r 0 1 ∷ r 0 2 ∷ r 1 5 ∷ r 1 6 ∷ r 2 2 ∷ hh 3 0 1 ∷ l 0 0 ∷ l 1 1 ∷ l 2 0 ∷ [])
+
 -- case 2 with other times and another comparison, by its tag
 abbrev events : ℕ → ℕ → ℕ → List ℕ
 events tag m k = job (solved 2 ∷ unsolved 2 ∷ rr 0 1 m ∷ rr 0 2 k ∷ hh 1 0 2 ∷ ll 0 0 1 ∷ ll 0 2 3 ∷ field tag (v 1 ∷ v 3 ∷ []) ∷ [])
@@ -169,8 +179,7 @@ table =
     -- case 10: no rows, allowance 0
     ∷ case (job (solved 1 ∷ unsolved 1 ∷ h 1 0 ∷ l 0 0 ∷ [])) 0 4096 [] complete 0 0
     -- case 11
-    ∷ list (job (solved 1 ∷ solved 1 ∷ solved 1 ∷ unsolved 2 ∷ r 0 1 ∷ r 0 2 ∷ r 1 5 ∷ r 1 6 ∷ r 2 2 ∷ hh 3 0 1 ∷ l 0 0 ∷ l 1 1 ∷ l 2 0 ∷ []))
-    ((6 ∷ 2 ∷ 5 ∷ 1 ∷ 0 ∷ 0 ∷ []) ∷ (8 ∷ 2 ∷ 6 ∷ 1 ∷ 1 ∷ 0 ∷ []) ∷ []) complete 8 10
+    ∷ list job11 ((6 ∷ 2 ∷ 5 ∷ 1 ∷ 0 ∷ 0 ∷ []) ∷ (8 ∷ 2 ∷ 6 ∷ 1 ∷ 1 ∷ 0 ∷ []) ∷ []) complete 8 10
     -- a walk that does not clear the mark on entering makes 22 tests here
     ∷ list (job (solved 1 ∷ solved 2 ∷ unsolved 2 ∷ r 0 0 ∷ r 0 1 ∷ rr 1 0 1 ∷ hh 2 1 2 ∷ l 0 1 ∷ l 0 2 ∷ l 0 0 ∷ ll 1 1 0 ∷ []))
     ((6 ∷ 0 ∷ 0 ∷ 0 ∷ 0 ∷ 1 ∷ 0 ∷ []) ∷ (11 ∷ 0 ∷ 1 ∷ 0 ∷ 1 ∷ 1 ∷ 0 ∷ []) ∷ []) complete 17 22
@@ -215,4 +224,23 @@ table =
     ∷ list (stops (unsolved 1) []) ((2 ∷ 1 ∷ 0 ∷ []) ∷ (4 ∷ 2 ∷ 1 ∷ []) ∷ []) complete 4 4
     -- and with m solved nothing is
     ∷ list (stops (solved 1) []) ((4 ∷ 1 ∷ []) ∷ []) complete 4 4
+    -- request 3/14: case 1 by the plain engine; and case 3, where the walk skips nothing;
+    ∷ plainly (refusedCase [] 11 0)
+    ∷ plainly (list job3 ((3 ∷ 7 ∷ 31 ∷ 0 ∷ 0 ∷ 0 ∷ []) ∷ (8 ∷ 7 ∷ 32 ∷ 1 ∷ 0 ∷ 1 ∷ []) ∷ []) complete 8 8)
+    -- case 4: every row of B is laid for both of A, but V0 = 1 is listed once;
+    ∷ plainly (list (job4 (h 2 0 ∷ [])) ((2 ∷ 1 ∷ 0 ∷ 0 ∷ []) ∷ (6 ∷ 2 ∷ 1 ∷ 0 ∷ []) ∷ []) complete 8 8)
+    -- case 5: the same with no head;
+    ∷ plainly (list (job4 []) ((2 ∷ 0 ∷ 0 ∷ []) ∷ []) complete 8 8)
+    -- case 6: no test is due;
+    ∷ plainly (case (job (unsolved 1 ∷ head 0 (n 4 ∷ []) ∷ [])) 0 4096 ((0 ∷ []) ∷ []) complete 0 0)
+    -- case 8: case 3 with allowance 7; and case 4 with 7 and with 5;
+    ∷ plainly (case job3 7 4096 ((3 ∷ 7 ∷ 31 ∷ 0 ∷ 0 ∷ 0 ∷ []) ∷ []) stopped 7 8)
+    ∷ plainly (case (job4 (h 2 0 ∷ [])) 7 4096 ((2 ∷ 1 ∷ 0 ∷ 0 ∷ []) ∷ (6 ∷ 2 ∷ 1 ∷ 0 ∷ []) ∷ []) stopped 7 8)
+    ∷ plainly (case (job4 (h 2 0 ∷ [])) 5 4096 ((2 ∷ 1 ∷ 0 ∷ 0 ∷ []) ∷ []) stopped 5 8)
+    -- case 9: V0 = 2 is found at the sixth test;
+    ∷ plainly (case (job4 (h 2 0 ∷ [])) 1000000 7 ((2 ∷ 1 ∷ 0 ∷ 0 ∷ []) ∷ []) full 6 8)
+    -- case 11: C fails for both rows of B before V0 = 2;
+    ∷ plainly (list job11 ((8 ∷ 2 ∷ 5 ∷ 1 ∷ 0 ∷ 0 ∷ []) ∷ (10 ∷ 2 ∷ 6 ∷ 1 ∷ 1 ∷ 0 ∷ []) ∷ []) complete 10 10)
+    -- and a negated literal over an unsolved predicate is one test
+    ∷ plainly (list (stops (unsolved 1) (h 2 0 ∷ [])) ((2 ∷ 1 ∷ 0 ∷ []) ∷ (4 ∷ 2 ∷ 1 ∷ []) ∷ []) complete 4 4)
     ∷ []

@@ -1,8 +1,8 @@
 use mathlib.Core.Path.{sym}
 use Rattle.ground.proofs.Joins.{refused-answer, numbered, accepted-answer}
 use borrow.Author.Needs.{needs}
-use Rattle.ground.proofs.ground.Statement.{statement}
-use Rattle.ground.proofs.ground.Tie as tie
+use Rattle.ground.proofs.ground_by.Statement.{statement}
+use Rattle.ground.proofs.ground_by.Tie as tie
 
 read-job-requires : tie.Need-read-job-requires
 read-job-requires c κs = search needs
@@ -15,7 +15,7 @@ number-requires c κs = search needs
 
 returns : tie.Need-returns
 returns c =
-    refused-answer _ (c .before .before .before .before .read-job .result) _ _ (c .before .before .before .before .read-job .ensures .0) _ _ _ _ _ (c .before .before .verdict .given .1) (c .number .ensures)
+    refused-answer _ (c .before .before .before .before .read-job .result) _ _ (c .before .before .before .before .read-job .ensures .0) _ _ _ _ _ _ (c .before .before .verdict .given .1) (c .number .ensures)
 
 enum-told : tie.Need-enum-told
 enum-told c = search needs
@@ -24,12 +24,12 @@ plan-of-requires : tie.Need-plan-of-requires
 plan-of-requires c κs =
     numbered _ (c .before .before .before .before .before .read-job .result) _ _ (c .before .before .before .before .before .read-job .ensures .0) (c .before .before .before .enum-told .given .1)
 
-slice-aggregate-run : tie.Need-slice-aggregate-run
-slice-aggregate-run c =
+slice-aggregate-run-by : tie.Need-slice-aggregate-run-by
+slice-aggregate-run-by c =
     sym (c .before .before .before .before .before .before .before .before .read-job .ensures .1 .1 (c .before .before .before .before .before .before .enum-told .given .1) .cells-length)
 
-run-requires : tie.Need-run-requires
-run-requires c κs = search needs
+run-by-requires : tie.Need-run-by-requires
+run-by-requires c κs = search needs
 
 ending-requires : tie.Need-ending-requires
 ending-requires c κs = search needs
@@ -39,10 +39,12 @@ same-length c = search needs
 
 returns-2 : tie.Need-returns-2
 returns-2 c =
-    accepted-answer _ (c .before .before .before .before .before .before .before .before .before .before .before .before .before .read-job .result) _ _ (c .before .before .before .before .before .before .before .before .before .before .before .before .before .read-job .ensures .0) (c .before .before .before .before .before .before .before .before .before .before .before .enum-told .given .1) _ _ _ (c .before .before .before .run .result) (c .ending .result) (c .before .before .before .run .ensures) (c .ending .ensures)
+    let r = c .before .before .before .before .before .before .before .before .before .before .before .before .before .read-job in
+    let l = c .before .before .before .run-by in
+    accepted-answer _ (r .result) _ _ (r .ensures .0) (c .before .before .before .before .before .before .before .before .before .before .before .enum-told .given .1) _ _ _ _ (l .result) (c .ending .result) (l .ensures) (c .ending .ensures)
 
-pub ground-spec : {M : Type 1} → statement M
-ground-spec =
+pub ground-by-spec : {M : Type 1} → statement M
+ground-by-spec =
     tie.close
     (tie.spec
     read-job-requires
@@ -51,8 +53,8 @@ ground-spec =
     returns
     enum-told
     plan-of-requires
-    slice-aggregate-run
-    run-requires
+    slice-aggregate-run-by
+    run-by-requires
     ending-requires
     same-length
     returns-2)
