@@ -2,7 +2,7 @@
 
 use crate::fields::{before, head, less_than, n, negated, positive, predicate, row, v, Field};
 use crate::rule::Term;
-use crate::run::{Run, LISTER_CELLS};
+use crate::run::Run;
 
 /// Every run that cases 1 to 12 tell of, in their order, then the roll-over
 /// under both comparisons and the stops under both marks.
@@ -37,8 +37,7 @@ pub fn runs() -> Vec<Run> {
 pub fn with_allowance(job: Vec<u8>, allowance: u32) -> Run {
     Run {
         allowance,
-        cells: LISTER_CELLS,
-        job,
+        ..Run::of_lister(job)
     }
 }
 

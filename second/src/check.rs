@@ -1,12 +1,13 @@
-//! The walk held against the meaning, on random jobs.
+//! Each engine held against the meaning, on random jobs.
 
+use crate::count::plain_count;
+use crate::engine::{Answer, Ending, Engine};
 use crate::job::read;
 use crate::list::entry_cells;
 use crate::meaning::{self, Instance};
 use crate::random::Random;
 use crate::rule::Job;
-use crate::walk::{walk, Answer, Ending};
-use crate::{damage, generate, plain};
+use crate::{damage, generate};
 
 #[derive(Default)]
 pub struct Tally {
@@ -33,7 +34,7 @@ pub fn check(jobs: usize, seed: u64) -> Tally {
             Ok(job) => tally.held_against_meaning(&job, random),
             Err(_) => {
                 tally.refused += 1;
-                sound.then_some("a sound job is refused")
+                sound.then(|| String::from("a sound job is refused"))
             }
         };
         if let Some(difference) = difference {
@@ -45,36 +46,46 @@ pub fn check(jobs: usize, seed: u64) -> Tally {
 }
 
 impl Tally {
-    fn held_against_meaning(&mut self, job: &Job, random: &mut Random) -> Option<&'static str> {
+    fn held_against_meaning(&mut self, job: &Job, random: &mut Random) -> Option<String> {
         let list = meaning::list(job)?;
         self.compared += 1;
-        difference(job, &list, random)
+        Engine::BOTH.into_iter().find_map(|engine| {
+            let difference = difference(engine, job, &list, random)?;
+            Some(format!("{engine:?}: {difference}"))
+        })
     }
 }
 
-/// The list that the meaning asks for, as the walk leaves it in cells.
+/// The list that the meaning asks for, as the engine leaves it in cells.
 struct Listed<'a> {
+    engine: Engine,
     job: &'a Job,
     entry_cells: usize,
     cells: Vec<u32>,
     tests: u32,
 }
 
-fn difference(job: &Job, list: &[Instance], random: &mut Random) -> Option<&'static str> {
+fn difference(
+    engine: Engine,
+    job: &Job,
+    list: &[Instance],
+    random: &mut Random,
+) -> Option<&'static str> {
     let entry_cells = entry_cells(job);
     let mut cells = vec![0; list.len() * entry_cells];
-    let answer = walk(job, u32::MAX, &mut cells);
+    let answer = engine.list(job, u32::MAX, &mut cells);
     if answer.ending != Ending::Complete || answer.entries != list.len() {
-        return Some("the walk lists another number of instances");
+        return Some("another number of instances is listed");
     }
     let mut entries = cells.chunks_exact(entry_cells).zip(list);
     if !entries.all(|(entry, instance)| is_entry_of(entry, instance)) {
-        return Some("the walk lists other entries");
+        return Some("other entries are listed");
     }
-    if u128::from(answer.tests) > plain::count(job) {
-        return Some("the walk makes more tests than the plain search");
+    if !may_make(engine, answer.tests.into(), plain_count(job)) {
+        return Some("the tests go against the plain count");
     }
     let listed = Listed {
+        engine,
         job,
         entry_cells,
         cells,
@@ -83,6 +94,15 @@ fn difference(job: &Job, list: &[Instance], random: &mut Random) -> Option<&'sta
     listed
         .stopped_difference(random)
         .or_else(|| listed.full_difference(random))
+}
+
+/// The walk makes the plain search's tests "but skips"; the plain engine makes
+/// all of them.
+fn may_make(engine: Engine, tests: u128, plain_count: u128) -> bool {
+    match engine {
+        Engine::Walk => tests <= plain_count,
+        Engine::Plain => tests == plain_count,
+    }
 }
 
 fn is_entry_of(entry: &[u32], instance: &Instance) -> bool {
@@ -130,7 +150,7 @@ impl Listed<'_> {
     fn is_beginning(&self, allowance: u32, lent: usize, expected: Answer) -> bool {
         const HELD: u32 = 0xABCD_EF01;
         let mut cells = vec![HELD; lent];
-        let answer = walk(self.job, allowance, &mut cells);
+        let answer = self.engine.list(self.job, allowance, &mut cells);
         let (written, later) = cells.split_at(expected.entries * self.entry_cells);
         answer == expected
             && self.cells.starts_with(written)

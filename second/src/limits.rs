@@ -1,4 +1,5 @@
-//! The document's case 13: both sides of every limit.
+//! The document's case 13: both sides of every limit; and searches over as many
+//! rows and items as the limits let in.
 
 use crate::fields::{
     before, field, head, less_than, n, negated, positive, predicate, row, v, Field,
@@ -37,6 +38,20 @@ pub fn outside() -> Vec<Vec<u8>> {
 pub fn lengths() -> Vec<Vec<u8>> {
     let padded = |length: usize| [predicate(0, true), field(9, &vec![0; length - 8])].concat();
     vec![padded(32_767), padded(32_768), padded(32_769)]
+}
+
+/// Eight literals over 1,024 rows. Where only the last row fits, a search that
+/// calls itself for each row goes deepest; where every row fits, the allowance
+/// ends it.
+pub fn long_searches() -> [Vec<u8>; 2] {
+    [literals_over_rows(|_| n(1_023)), literals_over_rows(v)]
+}
+
+fn literals_over_rows(term: fn(usize) -> Term) -> Vec<u8> {
+    let mut fields = vec![predicate(1, true)];
+    fields.extend((0..1_024).map(|number| row(0, &[number])));
+    fields.extend((0..8).map(|item| positive(0, &[term(item)])));
+    fields.concat()
 }
 
 fn predicates(count: usize) -> Vec<u8> {

@@ -1,15 +1,15 @@
 //! The lister's lines for a job.
 
+use crate::engine::{Answer, Ending, Engine};
 use crate::job::read;
 use crate::list::entry_cells;
 use crate::rule::Job;
-use crate::walk::{walk, Answer, Ending};
 
-/// The answer to a job's bytes, in lines as case 2 shows.
-pub fn lines(bytes: &[u8], allowance: u32, cells: &mut [u32]) -> String {
+/// The engine's answer to a job's bytes, in lines as case 2 shows.
+pub fn lines(engine: Engine, bytes: &[u8], allowance: u32, cells: &mut [u32]) -> String {
     match read(bytes) {
         Ok(job) => {
-            let answer = walk(&job, allowance, cells);
+            let answer = engine.list(&job, allowance, cells);
             accepted(&job, answer, cells)
         }
         Err(refusal) => format!("refused {} {}\n", refusal.number(), refusal.place),

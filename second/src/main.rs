@@ -4,16 +4,20 @@
 //!
 //! second list FILE                  the lister's lines for a job's raw bytes
 //! second run FILE ALLOWANCE CELLS   the same with that allowance and lent cells
-//! second check N SEED               N random jobs: the walk against the meaning
+//! second check N SEED               N random jobs: each engine against the meaning
 //! second corpus FOLDER SEED         writes the corpus: files `jobs` and `stdout`
 //! second fresh N SEED FOLDER        writes N fresh jobs in the same two files
+//!
+//! `list` and `run` walk; with `--plain` before FILE they use the plain engine.
 //!
 //! Build with `cargo build --release --offline`. The same seed gives the same bytes.
 
 mod cases;
 mod check;
 mod corpus;
+mod count;
 mod damage;
+mod engine;
 mod faults;
 mod fields;
 mod generate;
@@ -37,6 +41,7 @@ mod walk;
 #[cfg(test)]
 mod witnesses;
 
+use engine::Engine;
 use run::{Packed, Run};
 use std::env;
 use std::error::Error;
@@ -44,8 +49,8 @@ use std::fs;
 use std::path::Path;
 use std::process::ExitCode;
 
-const USAGE: &str = "second list FILE | run FILE ALLOWANCE CELLS | check N SEED | \
-                     corpus FOLDER SEED | fresh N SEED FOLDER";
+const USAGE: &str = "second list [--plain] FILE | run [--plain] FILE ALLOWANCE CELLS | \
+                     check N SEED | corpus FOLDER SEED | fresh N SEED FOLDER";
 
 fn main() -> ExitCode {
     let words: Vec<String> = env::args().skip(1).collect();
@@ -60,18 +65,30 @@ fn main() -> ExitCode {
 
 fn command(words: &[&str]) -> Result<(), Box<dyn Error>> {
     match *words {
-        ["list", file] => print(&Run::of_lister(fs::read(file)?)),
-        ["run", file, allowance, cells] => print(&Run {
-            allowance: allowance.parse()?,
-            cells: cells.parse()?,
-            job: fs::read(file)?,
-        }),
+        ["list", file] => print(&listed(file)?),
+        ["list", "--plain", file] => print(&listed(file)?.by(Engine::Plain)),
+        ["run", file, allowance, cells] => print(&run(file, allowance, cells)?),
+        ["run", "--plain", file, allowance, cells] => {
+            print(&run(file, allowance, cells)?.by(Engine::Plain))
+        }
         ["check", jobs, seed] => return check(jobs.parse()?, seed.parse()?),
         ["corpus", folder, seed] => corpus(folder, seed.parse()?)?,
         ["fresh", jobs, seed, folder] => fresh(jobs.parse()?, seed.parse()?, folder)?,
         _ => return Err(USAGE.into()),
     }
     Ok(())
+}
+
+fn listed(file: &str) -> Result<Run, Box<dyn Error>> {
+    Ok(Run::of_lister(fs::read(file)?))
+}
+
+fn run(file: &str, allowance: &str, cells: &str) -> Result<Run, Box<dyn Error>> {
+    Ok(Run {
+        allowance: allowance.parse()?,
+        cells: cells.parse()?,
+        ..listed(file)?
+    })
 }
 
 fn print(run: &Run) {
@@ -86,7 +103,7 @@ fn check(jobs: usize, seed: u64) -> Result<(), Box<dyn Error>> {
         tally.jobs, tally.refused, tally.compared, tally.differences
     );
     if tally.differences > 0 {
-        return Err("the walk differs from the meaning".into());
+        return Err("an engine differs from the meaning".into());
     }
     Ok(())
 }
@@ -104,12 +121,13 @@ fn fresh(jobs: usize, seed: u64, folder: &str) -> Result<(), Box<dyn Error>> {
     let random = &mut random::Random::new(seed);
     let mut packed = Packed::create(Path::new(folder))?;
     for number in 0..jobs {
+        let engine = random.pick(&Engine::BOTH);
         let run = if number % 2 == 0 {
             corpus::fresh_sound(random)
         } else {
             corpus::fresh_damaged(random)
         };
-        packed.write(&run)?;
+        packed.write(&run.by(engine))?;
     }
     println!("jobs {}", packed.finish()?);
     Ok(())

@@ -1,6 +1,7 @@
-//! A job with its allowance and lent cells, and the packed files that hold
-//! many of them beside their answers.
+//! A job with its engine, allowance and lent cells, and the packed files that
+//! hold many of them beside their answers.
 
+use crate::engine::Engine;
 use crate::lines::lines;
 use std::fs::{create_dir_all, File};
 use std::io::{self, BufWriter, Write};
@@ -12,6 +13,7 @@ pub const LISTER_CELLS: u32 = 4_096;
 
 #[derive(Clone, Debug, PartialEq, Eq)]
 pub struct Run {
+    pub engine: Engine,
     pub allowance: u32,
     pub cells: u32,
     pub job: Vec<u8>,
@@ -20,16 +22,22 @@ pub struct Run {
 impl Run {
     pub fn of_lister(job: Vec<u8>) -> Self {
         Run {
+            engine: Engine::Walk,
             allowance: LISTER_ALLOWANCE,
             cells: LISTER_CELLS,
             job,
         }
     }
 
+    /// The same run by this engine.
+    pub fn by(self, engine: Engine) -> Self {
+        Run { engine, ..self }
+    }
+
     /// The lines of the answer and the lent cells after the run.
     pub fn answer(&self) -> (String, Vec<u32>) {
         let mut cells: Vec<u32> = (0..self.cells).map(held_before).collect();
-        let lines = lines(&self.job, self.allowance, &mut cells);
+        let lines = lines(self.engine, &self.job, self.allowance, &mut cells);
         (lines, cells)
     }
 }
@@ -66,7 +74,7 @@ impl Packed {
 
     pub fn write(&mut self, run: &Run) -> io::Result<()> {
         let length = u32::try_from(run.job.len()).expect("a made job's length has four bytes");
-        for number in [run.allowance, run.cells, length, 0] {
+        for number in [run.allowance, run.cells, length, run.engine.number()] {
             self.jobs.write_all(&number.to_be_bytes())?;
         }
         self.jobs.write_all(&run.job)?;

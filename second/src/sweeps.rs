@@ -1,15 +1,16 @@
 //! A job's runs at and around every test count and every entry's end.
 
+use crate::engine::{Answer, Engine};
 use crate::job::read;
 use crate::list::entry_cells;
 use crate::run::{Run, LISTER_ALLOWANCE, LISTER_CELLS};
-use crate::walk::{walk, Answer};
 use std::collections::BTreeSet;
 
 /// Up to this many tests every allowance is run.
 const FEW_TESTS: u32 = 40;
 
-/// What a sound job gives the lister.
+/// What an engine answers to a sound job, with the lister's allowance and
+/// cells.
 pub struct Whole {
     pub answer: Answer,
     pub entry_cells: u32,
@@ -18,10 +19,10 @@ pub struct Whole {
 }
 
 impl Whole {
-    pub fn of(bytes: &[u8]) -> Option<Self> {
+    pub fn by(engine: Engine, bytes: &[u8]) -> Option<Self> {
         let job = read(bytes).ok()?;
         let mut cells = vec![0; LISTER_CELLS as usize];
-        let answer = walk(&job, LISTER_ALLOWANCE, &mut cells);
+        let answer = engine.list(&job, LISTER_ALLOWANCE, &mut cells);
         let entries = cells.chunks_exact(entry_cells(&job)).take(answer.entries);
         Some(Whole {
             answer,
@@ -51,13 +52,14 @@ fn around(number: u32) -> impl Iterator<Item = u32> {
     number.saturating_sub(1)..=number + 1
 }
 
-/// The runs of a sound job, by allowance, by cells, and where both run short at
-/// once.
-pub fn runs(bytes: &[u8]) -> Vec<Run> {
-    let Some(whole) = Whole::of(bytes) else {
+/// An engine's runs of a sound job, by allowance, by cells, and where both run
+/// short at once.
+pub fn runs(engine: Engine, bytes: &[u8]) -> Vec<Run> {
+    let Some(whole) = Whole::by(engine, bytes) else {
         return Vec::new();
     };
     let run = |allowance, cells| Run {
+        engine,
         allowance,
         cells,
         job: bytes.to_vec(),

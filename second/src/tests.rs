@@ -1,14 +1,20 @@
-//! The document's cases 1 to 13 with the numbers it gives, and those of requests
-//! 1/14 and 2/14.
+//! The document's cases 1 to 13 with the numbers it gives, those of requests
+//! 1/14 and 2/14, and all of them by the plain engine of request 3/14.
 
 use crate::cases::*;
+use crate::engine::Engine;
 use crate::fields::{before, less_than, n};
 use crate::job::read;
 use crate::run::Run;
-use crate::{limits, meaning, plain, witnesses};
+use crate::{count, limits, meaning, witnesses};
 
 fn listed(job: Vec<u8>) -> String {
     answer(&Run::of_lister(job))
+}
+
+/// What the plain engine lists.
+fn searched(job: Vec<u8>) -> String {
+    answer(&Run::of_lister(job).by(Engine::Plain))
 }
 
 fn answer(run: &Run) -> String {
@@ -16,7 +22,7 @@ fn answer(run: &Run) -> String {
 }
 
 fn plain_count(job: &[u8]) -> u128 {
-    plain::count(&read(job).expect("the case is accepted"))
+    count::plain_count(&read(job).expect("the case is accepted"))
 }
 
 #[test]
@@ -142,7 +148,8 @@ fn request_1_distances() {
         let entries = if holds { "1\ncomplete 1" } else { "complete 0" };
         let job = before(n(left), n(right));
         assert_eq!(plain_count(&job), 1);
-        assert_eq!(listed(job), format!("vars\n{entries} 1\n"));
+        assert_eq!(listed(job.clone()), format!("vars\n{entries} 1\n"));
+        assert_eq!(searched(job), format!("vars\n{entries} 1\n"));
     }
 }
 
@@ -184,23 +191,127 @@ fn plain_counts_that_the_document_does_not_give() {
 #[test]
 fn witnesses_of_wrong_walks() {
     let jobs = [
-        (witnesses::mark_on_entering(), "complete 2 17", 22),
-        (witnesses::nothing_fits(), "complete 0 3", 6),
-        (witnesses::clear_mark(), "complete 0 5", 10),
-        (witnesses::set_mark(), "complete 4 6", 6),
-        (witnesses::own_variables(), "complete 1 14", 14),
-        (witnesses::forward_group(), "complete 1 14", 14),
+        (witnesses::mark_on_entering(), 2, 17, 22),
+        (witnesses::nothing_fits(), 0, 3, 6),
+        (witnesses::clear_mark(), 0, 5, 10),
+        (witnesses::set_mark(), 4, 6, 6),
+        (witnesses::own_variables(), 1, 14, 14),
+        (witnesses::forward_group(), 1, 14, 14),
     ];
-    for (job, ending, count) in jobs {
+    for (job, entries, tests, count) in jobs {
+        let ending = |tests| format!("complete {entries} {tests}\n");
         assert_eq!(plain_count(&job), count);
-        assert_eq!(listed(job).lines().last(), Some(ending));
+        assert!(listed(job.clone()).ends_with(&ending(tests)));
+        assert!(searched(job).ends_with(&ending(count)));
     }
+}
+
+#[test]
+fn plain_cases_where_the_walk_skips_nothing() {
+    let cases = [
+        (case_1(), "refused 11 0\n"),
+        (case_2(), "vars 0 2\n5 1 2 0 1\ncomplete 1 10\n"),
+        (
+            case_3(),
+            "vars 1 2\n3 7 31 0 0 0\n8 7 32 1 0 1\ncomplete 2 8\n",
+        ),
+        (case_7(), "vars 0\n2 3 1\ncomplete 1 2\n"),
+        (case_12(), "refused 9 10\n"),
+        (roll_over(before), "vars 0 2\n5 1 2 0 1\ncomplete 1 10\n"),
+        (roll_over(less_than), "vars 0 2\n8 2 1 1 0\ncomplete 1 10\n"),
+        (stops(false, true), "vars 0\n2 1 0\n4 2 1\ncomplete 2 4\n"),
+        (stops(true, true), "vars 0\n4 2 1\ncomplete 1 4\n"),
+        (stops(false, false), "vars 0\n2 1 0\n4 2 1\ncomplete 2 4\n"),
+        (stops(true, false), "vars\n4 1\ncomplete 1 4\n"),
+    ];
+    for (job, expected) in cases {
+        assert_eq!(searched(job), expected);
+    }
+}
+
+#[test]
+fn plain_case_4_every_row_is_laid() {
+    let expected = "vars 0\n2 1 0 0\n6 2 1 0\ncomplete 2 8\n";
+    assert_eq!(searched(case_4()), expected);
+}
+
+#[test]
+fn plain_case_5_constraint() {
+    assert_eq!(searched(case_5()), "vars\n2 0 0\ncomplete 1 8\n");
+}
+
+#[test]
+fn plain_cases_6_and_10_need_no_allowance() {
+    let no_body = with_allowance(case_6(), 0).by(Engine::Plain);
+    assert_eq!(answer(&no_body), "vars\n0\ncomplete 1 0\n");
+    let no_rows = with_allowance(case_10(), 0).by(Engine::Plain);
+    assert_eq!(answer(&no_rows), "vars 0\ncomplete 0 0\n");
+}
+
+#[test]
+fn plain_case_8_allowance_used_up() {
+    let run = |allowance| with_allowance(case_3(), allowance).by(Engine::Plain);
+    let stopped = "vars 1 2\n3 7 31 0 0 0\nstopped 1 7\n";
+    assert_eq!(answer(&run(7)), stopped);
+    assert_eq!(answer(&run(8)), searched(case_3()));
+}
+
+#[test]
+fn plain_case_2_the_last_test_is_due_though_it_fails() {
+    let run = |allowance| with_allowance(case_2(), allowance).by(Engine::Plain);
+    let stopped = "vars 0 2\n5 1 2 0 1\nstopped 1 9\n";
+    assert_eq!(answer(&run(9)), stopped);
+    assert_eq!(answer(&run(10)), searched(case_2()));
+}
+
+#[test]
+fn plain_case_4_with_each_allowance() {
+    let entries = ["", "2 1 0 0\n", "2 1 0 0\n6 2 1 0\n"];
+    for (allowance, found) in [0, 0, 1, 1, 1, 1, 2, 2].into_iter().enumerate() {
+        let run = with_allowance(case_4(), allowance as u32).by(Engine::Plain);
+        let stopped = format!("vars 0\n{}stopped {found} {allowance}\n", entries[found]);
+        assert_eq!(answer(&run), stopped);
+    }
+    for allowance in [8, 9, u32::MAX] {
+        let run = with_allowance(case_4(), allowance).by(Engine::Plain);
+        assert_eq!(answer(&run), searched(case_4()));
+    }
+}
+
+#[test]
+fn plain_case_9_too_few_cells() {
+    let run = |allowance, cells| Run {
+        allowance,
+        cells,
+        ..case_9().by(Engine::Plain)
+    };
+    assert_eq!(answer(&run(8, 3)), "vars 0\nfull 0 2\n");
+    assert_eq!(answer(&run(8, 7)), "vars 0\n2 1 0 0\nfull 1 6\n");
+    assert_eq!(answer(&run(6, 7)), "vars 0\n2 1 0 0\nfull 1 6\n");
+    assert_eq!(answer(&run(5, 7)), "vars 0\n2 1 0 0\nstopped 1 5\n");
+    assert_eq!(answer(&run(8, 8)), searched(case_4()));
+}
+
+#[test]
+fn plain_case_11_late_join() {
+    let expected = "vars 0 1\n8 2 5 1 0 0\n10 2 6 1 1 0\ncomplete 2 10\n";
+    assert_eq!(searched(case_11()), expected);
+}
+
+#[test]
+fn plain_long_searches() {
+    let [last_row_fits, every_row_fits] = limits::long_searches();
+    let expected = "vars\n8192 1023 1023 1023 1023 1023 1023 1023 1023\ncomplete 1 8192\n";
+    assert_eq!(searched(last_row_fits), expected);
+    let expected = "vars\n8 0 0 0 0 0 0 0 0\nstopped 1 1000000\n";
+    assert_eq!(searched(every_row_fits), expected);
 }
 
 fn assert_refused(jobs: Vec<Vec<u8>>, refusals: &[(u32, usize)]) {
     assert_eq!(jobs.len(), refusals.len());
     for (job, (number, place)) in jobs.into_iter().zip(refusals) {
-        assert_eq!(listed(job), format!("refused {number} {place}\n"));
+        assert_eq!(listed(job.clone()), format!("refused {number} {place}\n"));
+        assert_eq!(searched(job), format!("refused {number} {place}\n"));
     }
 }
 
@@ -226,14 +337,16 @@ fn accepted_cases_have_the_meaning_s_list() {
         let job = read(&bytes).expect("the case is accepted");
         let list = meaning::list(&job).expect("the case is small");
         let lines: Vec<String> = list.iter().map(cells).collect();
-        let answer = listed(bytes);
-        let entries: Vec<&str> = answer.lines().collect();
-        let entries = &entries[1..entries.len() - 1];
-        assert_eq!(entries.len(), lines.len());
-        for (entry, line) in entries.iter().zip(lines) {
-            assert_eq!(entry.split(' ').skip(1).collect::<Vec<_>>().join(" "), line);
-        }
+        assert_eq!(without_tests(&listed(bytes.clone())), lines);
+        assert_eq!(without_tests(&searched(bytes)), lines);
     }
+}
+
+/// The entries of an answer, each without its first cell.
+fn without_tests(answer: &str) -> Vec<String> {
+    let lines: Vec<&str> = answer.lines().collect();
+    let later_cells = |entry: &&str| entry.split(' ').skip(1).collect::<Vec<_>>().join(" ");
+    lines[1..lines.len() - 1].iter().map(later_cells).collect()
 }
 
 fn cells(instance: &meaning::Instance) -> String {

@@ -1,5 +1,5 @@
 // Runs the jobs of a packed file and prints what becomes of each. A record is four big-endian numbers (allowance, cells, the job's
-// length, 0) and then the job's bytes.
+// length, the engine: 0 for the walk, 1 for the plain one) and then the job's bytes.
 
 mod cells;
 mod record;
@@ -20,10 +20,10 @@ const LIST_ROOM: usize = 4096;
 const JOB_ROOM: usize = JOB_LIMIT + 1;
 
 // A job's lines, and the weight of the lent cells after the run.
-fn run(job: &[u8], allowance: u32, list: &mut [u32]) {
+fn run(plain: bool, job: &[u8], allowance: u32, list: &mut [u32]) {
     fill(list);
     let shape = ground::shape_of(job);
-    let answer = ground::ground(job, allowance, list);
+    let answer = ground::ground_by(plain, job, allowance, list);
     let mut text = io::large_buffer();
     let written = lines::write_lines(answer, shape, &list[..], &mut text);
     io::write_all(STDOUT_FILENO, &text[..written]);
@@ -37,7 +37,7 @@ fn run_record(head: Head, fd: i32, job: &mut [u8], list: &mut [u32]) {
     let length = at_most(head.length, job.len());
     let got = io::read_full(fd, &mut job[..length]);
     let many = at_most(head.cells, list.len());
-    run(&job[..got], head.allowance, &mut list[..many]);
+    run(head.plain, &job[..got], head.allowance, &mut list[..many]);
 }
 
 // Runs the next record's job under its number. Answers whether there was one.

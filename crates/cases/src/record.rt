@@ -8,6 +8,7 @@ pub struct Head {
     pub allowance: u32,
     pub cells: usize,
     pub length: usize,
+    pub plain: bool,
 }
 
 pub enum Record {
@@ -30,9 +31,11 @@ pub fn read_head(fd: i32) -> Record {
     let allowance = number(bytes[0], bytes[1], bytes[2], bytes[3]);
     let cells = number(bytes[4], bytes[5], bytes[6], bytes[7]) as usize;
     let length = number(bytes[8], bytes[9], bytes[10], bytes[11]) as usize;
+    let plain = number(bytes[12], bytes[13], bytes[14], bytes[15]) == 1;
     Record::Head(Head {
         allowance,
         cells,
         length,
+        plain,
     })
 }

@@ -10,8 +10,8 @@ fill-requires c κs = search needs
 shape-of-requires : tie.Need-shape-of-requires
 shape-of-requires c κs = search needs
 
-ground-requires : tie.Need-ground-requires
-ground-requires c κs = search needs
+ground-by-requires : tie.Need-ground-by-requires
+ground-by-requires c κs = search needs
 
 large-buffer-requires : tie.Need-large-buffer-requires
 large-buffer-requires c κs = search needs
@@ -64,7 +64,7 @@ run-spec =
     (tie.spec
     fill-requires
     shape-of-requires
-    ground-requires
+    ground-by-requires
     large-buffer-requires
     slice-aggregate-write-lines
     write-lines-requires

@@ -1,8 +1,8 @@
 use mathlib.Core.Path.{sym}
 use lib.Seq.{length-take-le}
 use borrow.Author.Needs.{needs}
-use Rattle.lister.proofs.main.Statement.{statement}
-use Rattle.lister.proofs.main.Tie as tie
+use Rattle.lister.proofs.list.Statement.{statement}
+use Rattle.lister.proofs.list.Tie as tie
 
 slice-aggregate-read-full : tie.Need-slice-aggregate-read-full
 slice-aggregate-read-full c = search needs
@@ -22,14 +22,14 @@ shape-of-requires c κs = search needs
 array-share-prefix-job-2 : tie.Need-array-share-prefix-job-2
 array-share-prefix-job-2 c = search needs
 
-slice-aggregate-ground : tie.Need-slice-aggregate-ground
-slice-aggregate-ground c = search needs
+slice-aggregate-ground-by : tie.Need-slice-aggregate-ground-by
+slice-aggregate-ground-by c = search needs
 
-slice-aggregate-ground-2 : tie.Need-slice-aggregate-ground-2
-slice-aggregate-ground-2 c = search needs
+slice-aggregate-ground-by-2 : tie.Need-slice-aggregate-ground-by-2
+slice-aggregate-ground-by-2 c = search needs
 
-ground-requires : tie.Need-ground-requires
-ground-requires c κs = search needs
+ground-by-requires : tie.Need-ground-by-requires
+ground-by-requires c κs = search needs
 
 large-buffer-requires : tie.Need-large-buffer-requires
 large-buffer-requires c κs = search needs
@@ -55,8 +55,8 @@ write-all-requires c κs = search needs
 returns : tie.Need-returns
 returns c = search needs
 
-pub main-spec : {M : Type 1} → statement M
-main-spec =
+pub list-spec : {M : Type 1} → statement M
+list-spec =
     tie.close
     (tie.spec
     slice-aggregate-read-full
@@ -65,9 +65,9 @@ main-spec =
     slice-aggregate-shape-of
     shape-of-requires
     array-share-prefix-job-2
-    slice-aggregate-ground
-    slice-aggregate-ground-2
-    ground-requires
+    slice-aggregate-ground-by
+    slice-aggregate-ground-by-2
+    ground-by-requires
     large-buffer-requires
     slice-aggregate-write-lines
     slice-aggregate-write-lines-2

@@ -1,0 +1,2 @@
+-- When a word is the lister's.
+pub mod Words

@@ -1,0 +1,2 @@
+-- The lister's one word.
+pub mod Word
