@@ -248,20 +248,24 @@ fn plain_cases_6_and_10_need_no_allowance() {
     assert_eq!(answer(&no_rows), "vars 0\ncomplete 0 0\n");
 }
 
+/// With one test less than it takes the plain engine gives these lines, and
+/// with as many as it takes the whole list.
+fn assert_last_test_is_due(job: Vec<u8>, tests: u32, stopped: &str) {
+    let run = |allowance| with_allowance(job.clone(), allowance).by(Engine::Plain);
+    assert_eq!(answer(&run(tests - 1)), stopped);
+    assert_eq!(answer(&run(tests)), searched(job.clone()));
+}
+
 #[test]
 fn plain_case_8_allowance_used_up() {
-    let run = |allowance| with_allowance(case_3(), allowance).by(Engine::Plain);
     let stopped = "vars 1 2\n3 7 31 0 0 0\nstopped 1 7\n";
-    assert_eq!(answer(&run(7)), stopped);
-    assert_eq!(answer(&run(8)), searched(case_3()));
+    assert_last_test_is_due(case_3(), 8, stopped);
 }
 
 #[test]
 fn plain_case_2_the_last_test_is_due_though_it_fails() {
-    let run = |allowance| with_allowance(case_2(), allowance).by(Engine::Plain);
     let stopped = "vars 0 2\n5 1 2 0 1\nstopped 1 9\n";
-    assert_eq!(answer(&run(9)), stopped);
-    assert_eq!(answer(&run(10)), searched(case_2()));
+    assert_last_test_is_due(case_2(), 10, stopped);
 }
 
 #[test]
