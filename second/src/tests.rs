@@ -207,7 +207,7 @@ fn witnesses_of_wrong_walks() {
 }
 
 #[test]
-fn plain_cases_where_the_walk_skips_nothing() {
+fn plain_cases() {
     let cases = [
         (case_1(), "refused 11 0\n"),
         (case_2(), "vars 0 2\n5 1 2 0 1\ncomplete 1 10\n"),
@@ -215,7 +215,13 @@ fn plain_cases_where_the_walk_skips_nothing() {
             case_3(),
             "vars 1 2\n3 7 31 0 0 0\n8 7 32 1 0 1\ncomplete 2 8\n",
         ),
+        (case_4(), "vars 0\n2 1 0 0\n6 2 1 0\ncomplete 2 8\n"),
+        (case_5(), "vars\n2 0 0\ncomplete 1 8\n"),
         (case_7(), "vars 0\n2 3 1\ncomplete 1 2\n"),
+        (
+            case_11(),
+            "vars 0 1\n8 2 5 1 0 0\n10 2 6 1 1 0\ncomplete 2 10\n",
+        ),
         (case_12(), "refused 9 10\n"),
         (roll_over(before), "vars 0 2\n5 1 2 0 1\ncomplete 1 10\n"),
         (roll_over(less_than), "vars 0 2\n8 2 1 1 0\ncomplete 1 10\n"),
@@ -227,17 +233,6 @@ fn plain_cases_where_the_walk_skips_nothing() {
     for (job, expected) in cases {
         assert_eq!(searched(job), expected);
     }
-}
-
-#[test]
-fn plain_case_4_every_row_is_laid() {
-    let expected = "vars 0\n2 1 0 0\n6 2 1 0\ncomplete 2 8\n";
-    assert_eq!(searched(case_4()), expected);
-}
-
-#[test]
-fn plain_case_5_constraint() {
-    assert_eq!(searched(case_5()), "vars\n2 0 0\ncomplete 1 8\n");
 }
 
 #[test]
@@ -294,12 +289,6 @@ fn plain_case_9_too_few_cells() {
     assert_eq!(answer(&run(6, 7)), "vars 0\n2 1 0 0\nfull 1 6\n");
     assert_eq!(answer(&run(5, 7)), "vars 0\n2 1 0 0\nstopped 1 5\n");
     assert_eq!(answer(&run(8, 8)), searched(case_4()));
-}
-
-#[test]
-fn plain_case_11_late_join() {
-    let expected = "vars 0 1\n8 2 5 1 0 0\n10 2 6 1 1 0\ncomplete 2 10\n";
-    assert_eq!(searched(case_11()), expected);
 }
 
 #[test]

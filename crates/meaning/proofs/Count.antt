@@ -32,6 +32,23 @@ module _ (J : Job) where
   unfoldable pub cost : ℕ → ℕ → List ℕ → ℕ → ℕ
   cost d p rows k = suc (elim (fits J p (rowAt (rows ++ (k ∷ [])))) [ true ↦ plain J d (suc p) (rows ++ (k ∷ [])) | false ↦ 0 ])
 
+  pub item-cost : (d p : ℕ) (rows : List ℕ) → plain J (suc d) p rows ≡ sum (cost d p rows) 0 (count J p)
+  unfolding plain cost
+  item-cost d p rows = refl
+
+  module _ (d p : ℕ) (rows : List ℕ) (k : ℕ) where
+    pub cost-fit : fits J p (rowAt (rows ++ (k ∷ []))) ≡ true → cost d p rows k ≡ suc (plain J d (suc p) (rows ++ (k ∷ [])))
+    unfolding cost
+    cost-fit e = rw (e, cost) refl
+
+    pub cost-fails : fits J p (rowAt (rows ++ (k ∷ []))) ≡ false → cost d p rows k ≡ 1
+    unfolding cost
+    cost-fails e = rw (e, cost) refl
+
+    pub cost-some : 0 < cost d p rows k
+    unfolding cost
+    cost-some = omega arith
+
   -- and with the rows there from k on
   unfoldable remaining : ℕ → List ℕ → ℕ → ℕ
   remaining p rows k = sum (cost (size (J .rule) - suc p) p rows) k (count J p - k)
@@ -68,17 +85,13 @@ module _ (J : Job) where
   remaining-step p rows k h = let e : count J p - k ≡ suc (count J p - suc k) = omega arith in ap (sum (cost (size (J .rule) - suc p) p rows) k) e
 
   entering-remaining : (p : ℕ) (rows : List ℕ) → p < size (J .rule) → entering p rows ≡ remaining p rows 0
-  unfolding entering remaining plain cost
+  unfolding entering remaining
   entering-remaining p rows h = let e : size (J .rule) - p ≡ suc (size (J .rule) - suc p) = omega arith in
-      ap (λ (d : ℕ). plain J d p rows) e ∙ ap (sum (cost (size (J .rule) - suc p) p rows) 0) (omega arith)
+      ap (λ (d : ℕ). plain J d p rows) e ∙ item-cost (size (J .rule) - suc p) p rows ∙ ap (sum (cost (size (J .rule) - suc p) p rows) 0) (omega arith)
 
   cost-fits : (p : ℕ) (rows : List ℕ) (k : ℕ) → fits J p (rowAt (rows ++ (k ∷ []))) ≡ true → cost (size (J .rule) - suc p) p rows k ≡ suc (entering (suc p) (rows ++ (k ∷ [])))
-  unfolding cost entering
-  cost-fits p rows k e = rw (e, cost)
-
-  cost-pos : (p : ℕ) (rows : List ℕ) (k : ℕ) → 0 < cost (size (J .rule) - suc p) p rows k
-  unfolding cost
-  cost-pos p rows k = omega arith
+  unfolding entering
+  cost-fits p rows k = cost-fit (size (J .rule) - suc p) p rows k
 
   -- going back arrives where a row is left
 
@@ -173,7 +186,7 @@ module _ (J : Job) where
               ap (entering (suc p)) rows,
             )))
         | inr e ↦ rw (e, makeTest) (goOn-counted (suc t) (tested st) (ap suc (D .tests)) (D .small) longer
-            (omega (arith, D .enough, now, after, remaining-step p (fitted front) k (D .row), cost-pos p (fitted front) k)))
+            (omega (arith, D .enough, now, after, remaining-step p (fitted front) k (D .row), cost-some (size (J .rule) - suc p) p (fitted front) k)))
       ]
     where
       p : ℕ
@@ -219,7 +232,7 @@ module _ (J : Job) where
         ap (rest 0 []) (last-of (st .next) (st .position) (c .len)),
         rest-last (take (st .position) (st .next)) (st .position) (nextAt (st .next) (st .position)) (length-take-le (st .position) (st .next) (omega (arith, c .len))),
         remaining-step (st .position) (fitted (take (st .position) (st .next))) (nextAt (st .next) (st .position)) (c .row),
-        cost-pos (st .position) (fitted (take (st .position) (st .next))) (nextAt (st .next) (st .position)),
+        cost-some (size (J .rule) - suc (st .position)) (st .position) (fitted (take (st .position) (st .next))) (nextAt (st .next) (st .position)),
       )
   steps-made lent (suc a) t (ended e t′ es) c = (omega (arith, c .0, c .1), omega (arith, c .0), λ q. absurd (c .2 q))
   steps-made lent (suc a) t (due st) c =

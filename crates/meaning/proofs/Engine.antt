@@ -11,8 +11,8 @@ use Rattle.meaning.specs.Relevant.{Listing}
 use Rattle.meaning.specs.List.{complete, stopped, full, Searched, entrySize, instanceOf, Begins}
 use Rattle.meaning.specs.Plain.{plainCount}
 use Rattle.meaning.specs.Walk.{walk}
-use Rattle.meaning.proofs.Basics.{complete≢stopped, complete≢full, only-complete}
-use Rattle.meaning.proofs.Enlist.{begins-trans, begins-length, NoRoom, Wide, Cut}
+use Rattle.meaning.proofs.Basics.{complete≢stopped, complete≢full, only-complete, begins-trans, begins-length}
+use Rattle.meaning.proofs.Enlist.{NoRoom, Wide, Cut}
 use Rattle.meaning.proofs.Meaning as meaning
 use Rattle.meaning.proofs.Count.{Made, tests-made}
 use Rattle.meaning.proofs.Grow as grow

@@ -13,7 +13,7 @@ use Rattle.meaning.specs.Rows.{rowAt, value, values}
 use Rattle.meaning.specs.List.{Entry, Ending, complete, stopped, full, Searched, support, entrySize, instanceOf, cells, written, cellsAfter, entriesIn, instanceIn, Begins}
 use Rattle.meaning.specs.Plain.{plainCount}
 use Rattle.meaning.specs.Ground.{refusal, entriesOf, testsOf, Ended, answerOf, Grounded, Engine, groundBy, listOf, instancesOf}
-use Rattle.meaning.proofs.Basics.{map-append, mem-map}
+use Rattle.meaning.proofs.Basics.{mem-map, begins-map}
 use Rattle.meaning.proofs.Engine.{Lawful, beginning as search-beginning, complete-one as search-one}
 use Rattle.meaning.proofs.Answers.{length-cells, completed-listing, room-enough, full-lacks, cells-kept, cells-lent}
 
@@ -49,9 +49,6 @@ map-map-same g f h (x ∷ xs) e = λ i. e x (List·Memᴰ·head refl) i ∷ map-
 
 all-map : {A B : Type 0} (P : B → Type 0) (f : A → B) (xs : List A) → ((x : A) → List·Memᴰ x xs → P (f x)) → (y : B) → List·Memᴰ y (map f xs) → P y
 all-map P f xs h y at = let w = mem-map f xs y at in subst P (sym (w .2)) (h (w .0) (w .1))
-
-pub begins-map : {A B : Type 0} (f : A → B) (xs ys : List A) → Begins xs ys → Begins (map f xs) (map f ys)
-begins-map f xs ys b = (map f (b .0), ap (map f) (b .1) ∙ map-append f xs (b .0))
 
 module _ (J : Job) where
   instance-is : (e : Entry) → instanceIn (J .rule) (cells J e) ≡ instanceOf J e

@@ -60,6 +60,19 @@ module _ (J : Job) where
   abbrev pub AtOrPast : List Entry → Rows → ℕ → Type 0
   AtOrPast es a p = (e : Entry) → List·Memᴰ e es → Agree (rowAt (e .rows)) a p ⊎ Before (rowAt (e .rows)) a p
 
+  -- a position p is entered, and left when its rows have run out: b agrees with a before it
+
+  pub enter-past : (a b : Rows) (p : ℕ) → Agree b a p → (es : List Entry) → Past es a p → Past es b (suc p)
+  enter-past a b p stay es past e at =
+      let be = past e at in
+      (be .0, omega (arith, be .1), (λ i h. be .2 i h ∙ sym (stay i (omega (arith, be .1)))), subst (λ (x : ℕ). rowAt (e .rows) (be .0) < x) (sym (stay (be .0) (be .1))) (be .3))
+
+  pub leave-past : (a b : Rows) (p : ℕ) → Agree b a p → (es : List Entry) → Past es b (suc p) → AtOrPast es a p
+  leave-past a b p stay es past e at = let be = past e at in elim (lt-or-le (be .0) p) [
+    | inl k ↦ inr (be .0, k, (λ i h. be .2 i h ∙ stay i (omega arith)), subst (λ (x : ℕ). rowAt (e .rows) (be .0) < x) (stay (be .0) k) (be .3))
+    | inr k ↦ inl (λ i h. be .2 i (omega arith) ∙ stay i h)
+  ]
+
   -- once the cursor has moved on from a to b, at a position t before p, all that was at or before it is before it
   pub move-past : (a b : Rows) (t p : ℕ) → t < p → Agree b a t → b t ≡ suc (a t) → (es : List Entry) → AtOrPast es a p → Past es b (suc t)
   move-past a b t p l stay step es past e at =

@@ -12,12 +12,12 @@ use Rattle.meaning.specs.Relevant.{Listing}
 use Rattle.meaning.specs.Rows.{Rows, rowAt, values, fits, count}
 use Rattle.meaning.specs.List.{Entry, complete, Searched, instanceOf}
 use Rattle.meaning.specs.Plain.{oneTest, listWhole, fromRow, tryItem, plainSearch}
-use Rattle.meaning.proofs.Basics.{is-T, not-T, lt-or-le, complete≢stopped, complete≢full}
-use Rattle.meaning.proofs.Local.{values-local, binds-le, relevant-lt}
-use Rattle.meaning.proofs.Jump.{Agree, agree-suc, Good, good-local, SafeTo, Cover}
-use Rattle.meaning.proofs.Enlist.{with, enlisted, known, over, new}
-use Rattle.meaning.proofs.Order.{Known, Listed, listed-none, Past, AtOrPast, move-past, listed-known, known-with, known-new, listed-with, past-with}
-use Rattle.meaning.proofs.Walk.{move-path, move-cover}
+use Rattle.meaning.proofs.Basics.{is-T, lt-or-le, complete≢stopped, complete≢full}
+use Rattle.meaning.proofs.Local.{values-local, relevant-lt}
+use Rattle.meaning.proofs.Jump.{Agree, agree-suc, Good, SafeTo, Cover}
+use Rattle.meaning.proofs.Enlist.{enlisted, known, over, new}
+use Rattle.meaning.proofs.Order.{Known, Listed, listed-none, Past, AtOrPast, move-past, listed-known, known-with, known-new, listed-with, past-with, enter-past, leave-past}
+use Rattle.meaning.proofs.Walk.{unfit, move-path, move-cover}
 use Rattle.meaning.proofs.Meaning.{listed-listing}
 use Rattle.meaning.proofs.Engine.{Lawful}
 use Rattle.meaning.proofs.Plain.{each-keeps, whole-tried, item-tried, rowed, stays, stops, fit, fails}
@@ -89,7 +89,7 @@ module _ (J : Job) (safe : Safe (J .rule)) where
       done-none es I = record {
         listing = I .listing;
         cover = move-cover J safe (rowAt rows) (at 0) p (before 0) (Known J es) (I .cover) (λ s v agree h. absurd (omega (arith, row-is 0)));
-        past = λ e m. let be = I .past e m in (be .0, omega (arith, be .1), (λ i h. be .2 i h ∙ sym (before 0 i (omega (arith, be .1)))), subst (λ (x : ℕ). rowAt (e .rows) (be .0) < x) (sym (before 0 (be .0) (be .1))) (be .3));
+        past = enter-past J (rowAt rows) (at 0) p (before 0) es (I .past);
         more = λ vs k. k;
       }
 
@@ -97,10 +97,7 @@ module _ (J : Job) (safe : Safe (J .rule)) where
       done-all es fs D = record {
         listing = D .listing;
         all = λ s v agree. D .cover s v p (omega arith) (λ i h. agree i h ∙ sym (before (count J p) i h)) (subst (λ (x : ℕ). s p < x) (sym (row-is (count J p))) (v p small .0));
-        past = λ e m. let be = D .past e m in elim (lt-or-le (be .0) p) [
-          | inl k ↦ inr (be .0, k, (λ i h. be .2 i h ∙ before (count J p) i (omega arith)), subst (λ (x : ℕ). rowAt (e .rows) (be .0) < x) (before (count J p) (be .0) k) (be .3))
-          | inr k ↦ inl (λ i h. be .2 i (omega arith) ∙ before (count J p) i h)
-        ];
+        past = leave-past J (rowAt rows) (at (count J p)) p (before (count J p)) fs (D .past);
         more = D .more;
       }
 
@@ -121,7 +118,7 @@ module _ (J : Job) (safe : Safe (J .rule)) where
       -- a row that does not fit
       done-fails : (k : ℕ) (es fs : List Entry) → fits J p (at k) ≡ false → Done k es fs → Done (suc k) es fs
       done-fails k es fs e D = done-row k es fs fs D (D .listing)
-          (λ s v agree. absurd (not-T e (good-local J p s (at k) (agree p (omega arith)) (λ j n. agree j (let q = binds-le (J .rule) safe p j small n in omega arith)) (v p small) .1)))
+          (λ s v agree. absurd (unfit J safe (at k) p small e s agree (v p small)))
           (λ f m. inr (D .past f m)) (λ vs z. z)
 
       -- a row that fits

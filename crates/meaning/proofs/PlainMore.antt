@@ -10,39 +10,10 @@ use Rattle.meaning.specs.Job.{Job, size}
 use Rattle.meaning.specs.Rows.{count}
 use Rattle.meaning.specs.List.{Ending, complete, stopped, full, Searched, entrySize, Begins}
 use Rattle.meaning.specs.Plain.{listWhole, fromRow, tryItem, plainSearch}
-use Rattle.meaning.proofs.Basics.{lt-or-le, complete≢stopped, complete≢full, stopped≢full}
-use Rattle.meaning.proofs.Enlist.{begins-refl, begins-trans, begins-length, one-more, Cut, enlisted, known, over, new, roomier, same-list, no-longer}
-use Rattle.meaning.proofs.Plain.{each-both, each-keeps, whole-tried, item-tried, row-stays, row-stops, row-fits, row-fails, rowed, stays, stops, fit, fails}
+use Rattle.meaning.proofs.Basics.{lt-or-le, complete≢stopped, complete≢full, stopped≢full, begins-refl, begins-trans, begins-length}
+use Rattle.meaning.proofs.Enlist.{one-more, Cut, roomier, same-list, no-longer}
+use Rattle.meaning.proofs.Plain.{each-both, whole-tried, item-tried, row-grows, row-stays, row-stops, row-fits, row-fails, rowed, stays, stops, fit, fails}
 use Rattle.meaning.proofs.PlainTests.{entries-fit}
-
--- the list only grows
-module _ (J : Job) (allowance lent : ℕ) where
-  abbrev Grows : (List ℕ → Searched → Searched) → Type 0
-  Grows f = (rows : List ℕ) (s : Searched) → Begins (s .entries) (f rows s .entries)
-
-  whole-grows : Grows (listWhole J allowance lent)
-  unfolding listWhole
-  whole-grows rows s = elim (enlisted J lent rows (s .tests) (s .entries)) [
-    | known t q ↦ rw (q, listWhole) (begins-refl (s .entries))
-    | over e n q ↦ rw (q, listWhole) (begins-refl (s .entries))
-    | new e r q ↦ rw (q, listWhole) (record { tests = s .tests; rows = rows } ∷ [], refl)
-  ]
-
-  row-grows : (f : List ℕ → Searched → Searched) → Grows f → (p : ℕ) (rows : List ℕ) (k : ℕ) (s : Searched) → Begins (s .entries) (fromRow J allowance lent f p rows k s .entries)
-  row-grows f grows p rows k s = elim (rowed J allowance lent f p rows k s) [
-    | stays h q ↦ rw q (begins-refl (s .entries))
-    | stops c l q ↦ rw q (begins-refl (s .entries))
-    | fit c l e q ↦ rw q (grows _ _)
-    | fails c l e q ↦ rw q (begins-refl (s .entries))
-  ]
-
-  item-grows : (d p : ℕ) → Grows (tryItem J allowance lent d p)
-  item-grows zero p rows s = rw (whole-tried J allowance lent p rows s) (whole-grows rows s)
-  item-grows (suc d) p rows s =
-      rw (item-tried J allowance lent d p rows s)
-      (each-keeps (fromRow J allowance lent (tryItem J allowance lent d (suc p)) p rows) (λ k r. Begins (s .entries) (r .entries)) (count J p)
-      (λ k h r b. begins-trans (s .entries) (r .entries) (fromRow J allowance lent (tryItem J allowance lent d (suc p)) p rows k r .entries) b (row-grows (tryItem J allowance lent d (suc p)) (item-grows d (suc p)) p rows k r))
-      s (begins-refl (s .entries)))
 
 module _ (J : Job) (a b lent : ℕ) where
   -- the first has ended sooner
@@ -76,10 +47,16 @@ module _ (J : Job) (a b lent more : ℕ) (h : a ≤ b) (room : lent ≤ more) wh
     }))
   ]
 
-  abbrev Alike : (List ℕ → Searched → Searched) → (List ℕ → Searched → Searched) → Type 0
-  Alike f g = (rows : List ℕ) (s : Searched) → Like J a b lent (f rows s) (g rows s)
+  abbrev Alike : ℕ → ℕ → Type 0
+  Alike d p = (rows : List ℕ) (s : Searched) → Like J a b lent (tryItem J a lent d p rows s) (tryItem J b more d p rows s)
 
-  module _ (f g : List ℕ → Searched → Searched) (alike : Alike f g) (grows : Grows J b more g) (p : ℕ) (rows : List ℕ) (k : ℕ) where
+  module _ (d p : ℕ) (alike : Alike d (suc p)) (rows : List ℕ) (k : ℕ) where
+    abbrev f : List ℕ → Searched → Searched
+    f = tryItem J a lent d (suc p)
+
+    abbrev g : List ℕ → Searched → Searched
+    g = tryItem J b more d (suc p)
+
     abbrev first : Searched → Searched
     first = fromRow J a lent f p rows k
 
@@ -92,7 +69,7 @@ module _ (J : Job) (a b lent more : ℕ) (h : a ≤ b) (room : lent ≤ more) wh
       | stops c l q ↦ elim (lt-or-le (s .tests) b) [
         | inl z ↦ rw q (inr (record {
           ended = λ e. complete≢stopped (sym e);
-          begins = row-grows J b more g grows p rows k s;
+          begins = row-grows J b more d p k rows s;
           less = λ e. omega arith;
           cut = λ e. absurd (stopped≢full e);
         }))
@@ -105,15 +82,15 @@ module _ (J : Job) (a b lent more : ℕ) (h : a ≤ b) (room : lent ≤ more) wh
     row-like : (s t : Searched) → Like J a b lent s t → Like J a b lent (first s) (second t)
     row-like s t l = elim l [
       | inl e ↦ subst (λ (x : Searched). Like J a b lent (first s) (second x)) e (from-same s)
-      | inr A ↦ rw (row-stays J a lent f p rows k s (A .ended)) (inr (sooner-on J a b lent s t (second t) A (row-grows J b more g grows p rows k t)))
+      | inr A ↦ rw (row-stays J a lent f p rows k s (A .ended)) (inr (sooner-on J a b lent s t (second t) A (row-grows J b more d p k rows t)))
     ]
 
-  item-like : (d p : ℕ) → Alike (tryItem J a lent d p) (tryItem J b more d p)
+  item-like : (d p : ℕ) → Alike d p
   item-like zero p rows s = rw (whole-tried J a lent p rows s, whole-tried J b more p rows s) (whole-like rows s)
   item-like (suc d) p rows s =
       rw (item-tried J a lent d p rows s, item-tried J b more d p rows s)
       (each-both (fromRow J a lent (tryItem J a lent d (suc p)) p rows) (fromRow J b more (tryItem J b more d (suc p)) p rows) (λ k x y. Like J a b lent x y) 0 (count J p) (count J p) (omega arith)
-      (λ k z x y l. row-like (tryItem J a lent d (suc p)) (tryItem J b more d (suc p)) (item-like d (suc p)) (item-grows J b more d (suc p)) p rows k x y l) s s (inl refl))
+      (λ k z x y l. row-like d p (item-like d (suc p)) rows k x y l) s s (inl refl))
 
   search-like : Like J a b lent (plainSearch J a lent) (plainSearch J b more)
   unfolding plainSearch

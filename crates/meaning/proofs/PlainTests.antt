@@ -1,18 +1,17 @@
 -- The plain search's tests and cells: its tests are the plain count, as far as it comes.
 use mathlib.Core.Path.{_≡_, refl, sym, ap, _∙_}
-use mathlib.Core.Bool.{true, false}
 use mathlib.Core.Logic.{_≢_}
 use mathlib.Core.List.{List, [], _∷_, _++_, List·Memᴰ·not-nil}
 use Prim.Native.Nat.{ℕ, zero, suc, _+_, _*_, _≤_, _<_}
 use native.Mathlib.Omega.{arith}
 use lib.ListN.{length, length-append}
 use Rattle.meaning.specs.Job.{Job, size}
-use Rattle.meaning.specs.Rows.{rowAt, fits, count}
+use Rattle.meaning.specs.Rows.{count}
 use Rattle.meaning.specs.List.{Entry, complete, stopped, full, Searched, entrySize}
 use Rattle.meaning.specs.Plain.{sum, plain, plainCount, oneTest, listWhole, fromRow, tryItem, plainSearch}
 use Rattle.meaning.proofs.Basics.{complete≢stopped, complete≢full, stopped≢full}
 use Rattle.meaning.proofs.Enlist.{with, NoRoom, Wide, one-more, full-many, enlisted, known, over, new}
-use Rattle.meaning.proofs.Count.{cost, Made}
+use Rattle.meaning.proofs.Count.{cost, item-cost, cost-fit, cost-fails, cost-some, Made}
 use Rattle.meaning.proofs.Plain.{each-keeps, whole-tried, item-tried, item-wide, rowed, stays, stops, fit, fails}
 
 sum-last : (f : ℕ → ℕ) (k c : ℕ) → sum f k (suc c) ≡ sum f k c + f (k + c)
@@ -21,25 +20,6 @@ sum-last f k zero = let e : k ≡ k + 0 = omega arith in omega (arith, ap f e)
 sum-last f k (suc c) = let e : suc k + c ≡ k + suc c = omega arith in omega (arith, sum-last f (suc k) c, ap f e)
 
 module _ (J : Job) where
-  -- what the plain count gives to an item, row by row
-
-  item-cost : (d p : ℕ) (rows : List ℕ) → plain J (suc d) p rows ≡ sum (cost J d p rows) 0 (count J p)
-  unfolding plain cost
-  item-cost d p rows = refl
-
-  module _ (d p : ℕ) (rows : List ℕ) (k : ℕ) where
-    cost-fit : fits J p (rowAt (rows ++ (k ∷ []))) ≡ true → cost J d p rows k ≡ suc (plain J d (suc p) (rows ++ (k ∷ [])))
-    unfolding cost
-    cost-fit e = rw (e, cost) refl
-
-    cost-fails : fits J p (rowAt (rows ++ (k ∷ []))) ≡ false → cost J d p rows k ≡ 1
-    unfolding cost
-    cost-fails e = rw (e, cost) refl
-
-    cost-some : 0 < cost J d p rows k
-    unfolding cost
-    cost-some = omega arith
-
   module _ (allowance lent : ℕ) where
     -- what holds of the search at any time
     record Held (s : Searched) : Type 0 where
@@ -120,7 +100,7 @@ module _ (J : Job) where
             fewer = T .fewer;
             most = omega (arith, T .most);
             done = λ e. absurd (h e);
-            short = λ e. omega (arith, T .short e, cost-some d p rows k);
+            short = λ e. omega (arith, T .short e, cost-some J d p rows k);
           })
           | stops c l q ↦ rw q (record {
             held = record {
@@ -133,10 +113,10 @@ module _ (J : Job) where
             fewer = λ e. absurd (stopped≢full e);
             most = omega (arith, T .most);
             done = λ e. absurd (complete≢stopped (sym e));
-            short = λ e. omega (arith, T .done c, cost-some d p rows k);
+            short = λ e. omega (arith, T .done c, cost-some J d p rows k);
           })
           | fit c l e q ↦ let I = next (rows ++ (k ∷ [])) (oneTest r) c (tested-held r c l (T .held)) in
-              rw (q, cost-fit d p rows k e) (record {
+              rw (q, cost-fit J d p rows k e) (record {
                 held = I .held;
                 few = omega (arith, T .few, I .few);
                 fewer = λ z. omega (arith, T .few, I .fewer z);
@@ -144,7 +124,7 @@ module _ (J : Job) where
                 done = λ z. omega (arith, T .done c, I .done z);
                 short = λ z. omega (arith, T .done c, I .short z);
               })
-          | fails c l e q ↦ rw (q, cost-fails d p rows k e) (record {
+          | fails c l e q ↦ rw (q, cost-fails J d p rows k e) (record {
             held = tested-held r c l (T .held);
             few = omega (arith, T .few);
             fewer = λ z. absurd (complete≢full (sym c ∙ z));
@@ -158,7 +138,7 @@ module _ (J : Job) where
     unfolding plain
     item-on zero p rows s c H = rw (whole-tried J allowance lent p rows s) (whole-here rows s c H)
     item-on (suc d) p rows s c H =
-        rw (item-tried J allowance lent d p rows s, item-cost d p rows)
+        rw (item-tried J allowance lent d p rows s, item-cost J d p rows)
         (looser (each-keeps (fromRow J allowance lent (tryItem J allowance lent d (suc p)) p rows) (λ k r. Tried (sum (cost J d p rows) 0 k) 0 s r) (count J p)
         (λ k h r T. rw (sum-last (cost J d p rows) 0 k, here k) (row-on d p rows (item-on d (suc p)) s r (sum (cost J d p rows) 0 k) k T)) s begin))
       where
@@ -209,7 +189,7 @@ module _ (J : Job) where
 
     pub entries-wide : Wide J (end .entries)
     unfolding plainSearch
-    entries-wide = item-wide J allowance lent (size (J .rule)) 0 (omega arith) [] begin refl (λ e at. absurd (List·Memᴰ·not-nil at))
+    entries-wide = item-wide J allowance lent (size (J .rule)) 0 [] begin (omega arith, refl) (λ e at. absurd (List·Memᴰ·not-nil at))
 
     pub entries-fit : length (end .entries) * entrySize (J .rule) ≤ lent
     entries-fit = searched .held .room

@@ -13,8 +13,8 @@ use Rattle.meaning.specs.Rows.{rowAt, fits}
 use Rattle.meaning.specs.List.{Entry, full, entrySize, Begins}
 use Rattle.meaning.specs.Plain.{plainCount}
 use Rattle.meaning.specs.Walk.{State, Turn, due, ended, fitted, tested, setAll, wholeChoice, whole, enter, makeTest, start, steps, stop, walk}
-use Rattle.meaning.proofs.Basics.{split}
-use Rattle.meaning.proofs.Enlist.{begins-trans, begins-length, with, NoRoom, one-more, full-many, Cut, roomier, same-list, no-longer}
+use Rattle.meaning.proofs.Basics.{split, begins-trans, begins-length}
+use Rattle.meaning.proofs.Enlist.{with, NoRoom, one-more, full-many, Cut, roomier, same-list, no-longer}
 use Rattle.meaning.proofs.Count.{tests-made}
 use Rattle.meaning.proofs.Grow.{listOf, madeBy, IsFull, stop-list, stop-made, stop-full, test-step, start-step, goBack-kept, steps-begins}
 

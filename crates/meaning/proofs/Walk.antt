@@ -20,7 +20,7 @@ use Rattle.meaning.proofs.Group.{group-self}
 use Rattle.meaning.proofs.Local.{binds-le}
 use Rattle.meaning.proofs.Jump.{Agree, agree-suc, Good, AllGood, GroupGood, good-local, Cover, FailAt, Nested, Reason, Landed, reason-whole, reason-nothing, reason-out, back-sound}
 use Rattle.meaning.proofs.Enlist.{enlisted, known, over, new, with}
-use Rattle.meaning.proofs.Order.{Known, Listed, listed-none, Past, AtOrPast, move-past, listed-known, known-with, known-new, listed-with, past-with}
+use Rattle.meaning.proofs.Order.{Known, Listed, listed-none, Past, AtOrPast, move-past, listed-known, known-with, known-new, listed-with, past-with, enter-past, leave-past}
 
 -- next rows
 
@@ -87,6 +87,10 @@ module _ (J : Job) (safe : Safe (J .rule)) where
   Fine (ended complete t es) = Listed J es × ((s : Rows) → AllGood J s → Known J es (values J s))
   Fine (ended stopped t es) = Listed J es
   Fine (ended full t es) = Listed J es
+
+  -- what agrees up to p with rows that do not fit there does not fit either
+  pub unfit : (a : Rows) (p : ℕ) → p < size (J .rule) → fits J p a ≡ false → (s : Rows) → Agree s a (suc p) → Good J s p → ⊥
+  unfit a p small e s agree g = not-T e (good-local J p s a (agree p (omega arith)) (λ j n. agree j (let q = binds-le (J .rule) safe p j small n in omega arith)) g .1)
 
   -- the cursor moves from a to b, at position t: the rows before t stay
   module _ (a b : Rows) (t : ℕ) (stay : Agree b a t) where
@@ -204,10 +208,7 @@ module _ (J : Job) (safe : Safe (J .rule)) where
             fail = λ i h. I .fail i (omega arith);
             listing = I .listing;
           })
-          (λ f at. let be = I .past f at in elim (lt-or-le (be .0) p) [
-            | inl k ↦ inr (be .0, k, be .2, be .3)
-            | inr k ↦ inl (λ i h. be .2 i (omega arith))
-          ])
+          (leave-past J a a p (λ i h. refl) (st .entries) (I .past))
 
   module _ (lent : ℕ) where
     whole-fine : (next : List ℕ) (marks : List Bool) (tests : ℕ) (es : List Entry) → length next ≡ size (J .rule) → Behind (rowAt (fitted next)) (size (J .rule)) next marks es
@@ -288,7 +289,7 @@ module _ (J : Job) (safe : Safe (J .rule)) where
           fail = move-fail a b p stay marks (marks ++ (false ∷ [])) (λ i h k. sym (kept-mark i h) ∙ k) (B .fail) (λ k s agree h g. omega (arith, step));
           new = λ t s agree h g. omega (arith, step);
           listing = B .listing;
-          past = λ f at. let be = past f at in (be .0, omega (arith, be .1), (λ i h. be .2 i h ∙ sym (stay i (omega (arith, be .1)))), subst (λ (x : ℕ). rowAt (f .rows) (be .0) < x) (sym (stay (be .0) (be .1))) (be .3));
+          past = enter-past J a b p stay es past;
         }
 
     test-fine : (st : State) → Fine (due st) → Fine (makeTest J lent st)
@@ -343,11 +344,8 @@ module _ (J : Job) (safe : Safe (J .rule)) where
         stay i h = omega (arith, cursor-before next p i h, rows i (omega arith))
 
         -- what goes as far as the row tested does not fit either
-        unfit : fits J p a ≡ false → (s : Rows) → Agree s a p → s p < b p → (s p < a p → ⊥) → Good J s p → ⊥
-        unfit e s agree h k g = not-T e (good-local J p s a same-row (λ j n. agree-suc s a p agree same-row j (let q = binds-le (J .rule) safe p j (I .small) n in omega arith)) g .1)
-          where
-            same-row : s p ≡ a p
-            same-row = elim (lt-or-le (s p) (a p)) [ inl l ↦ absurd (k l) | inr l ↦ omega (arith, step) ]
+        fails : fits J p a ≡ false → (s : Rows) → Agree s a p → s p < b p → (s p < a p → ⊥) → Good J s p → ⊥
+        fails e s agree h k g = unfit a p (I .small) e s (agree-suc s a p agree (elim (lt-or-le (s p) (a p)) [ inl l ↦ absurd (k l) | inr l ↦ omega (arith, step) ])) g
 
         ready : fits J p a ≡ false → Ready (tested st)
         ready e = record {
@@ -358,11 +356,11 @@ module _ (J : Job) (safe : Safe (J .rule)) where
           nested = I .nested;
           path = move-path a b p stay (omega (arith, I .small)) (I .path);
           cover = move-cover a b p stay (Known J (st .entries)) (λ s v i h. I .cover s v i (omega arith))
-              (λ s v agree h. elim (lt-or-le (s p) (a p)) [ inl k ↦ I .cover s v p (omega arith) agree k | inr k ↦ absurd (unfit e s agree h (λ l. omega arith) (v p (I .small))) ]);
+              (λ s v agree h. elim (lt-or-le (s p) (a p)) [ inl k ↦ I .cover s v p (omega arith) agree k | inr k ↦ absurd (fails e s agree h (λ l. omega arith) (v p (I .small))) ]);
           fail = move-fail a b p stay (st .marks) (st .marks) (λ i h k. k) (λ i h. I .fail i (omega arith))
-              (λ m s agree h g. elim (lt-or-le (s p) (a p)) [ inl k ↦ I .fail p (omega arith) m s agree k g | inr k ↦ unfit e s agree h (λ l. omega arith) (g p (group-self (J .rule) p)) ]);
+              (λ m s agree h g. elim (lt-or-le (s p) (a p)) [ inl k ↦ I .fail p (omega arith) m s agree k g | inr k ↦ fails e s agree h (λ l. omega arith) (g p (group-self (J .rule) p)) ]);
           new = λ t s agree h g. let agree′ = agree-back a b p stay s p (omega arith) agree in
-              elim (lt-or-le (s p) (a p)) [ inl k ↦ I .new t s agree′ k g | inr k ↦ unfit e s agree′ h (λ l. omega arith) g ];
+              elim (lt-or-le (s p) (a p)) [ inl k ↦ I .new t s agree′ k g | inr k ↦ fails e s agree′ h (λ l. omega arith) g ];
           listing = I .listing;
           past = move-past J a b p (suc p) (omega arith) stay step (st .entries) (λ f at. inr (I .past f at));
         }
