@@ -1,5 +1,7 @@
 // Runs the jobs of a packed file and prints what becomes of each. A record is four big-endian numbers (allowance, cells, the job's
 // length, the engine: 0 for the walk, 1 for the plain one) and then the job's bytes.
+#![tactic(auto)]
+
 
 mod cells;
 mod record;

@@ -3,7 +3,7 @@ ghost use Rattle.std.specs.Prelude.{◌≡◌, ◌+◌, ◌*◌};
 
 const HEAD_SIZE: usize = 16;
 
-#[derive(Drop)]
+#[derive(Clone, Copy)]
 pub struct Head {
     pub allowance: u32,
     pub cells: usize,
@@ -11,7 +11,7 @@ pub struct Head {
     pub plain: bool,
 }
 
-#[derive(Drop)]
+#[derive(Clone, Copy)]
 pub enum Record {
     Head(Head),
     End,

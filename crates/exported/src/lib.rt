@@ -1,4 +1,6 @@
 // The one call, for programs in other languages: the answer is told in numbers.
+#![tactic(auto)]
+
 ghost use Rattle.std.specs.Prelude.{◌≡◌};
 ghost use Rattle.meaning.specs.Ground.{ground as grounding};
 ghost use Rattle.ground.specs.Answer.{answer_of};

@@ -1,4 +1,6 @@
 // The public calls: a job's bytes, an allowance of tests and the lent cells of the list, by the walk or by the plain engine.
+#![tactic(auto)]
+
 ghost use Rattle.std.specs.Prelude.{◌≡◌, length};
 ghost use Rattle.meaning.specs.Job.{Job, Sound};
 ghost use Rattle.meaning.specs.Reading.{reading};
@@ -18,7 +20,7 @@ use rule::{CELL_LIMIT, INDEX_LIMIT, PREDICATE_LIMIT, Rule, VARIABLE_LIMIT};
 use walk::run::{Ended, run};
 
 // An ending has the entries written and the tests made; a refusal its number and place.
-#[derive(Drop)]
+#[derive(Clone, Copy)]
 pub enum Answer {
     Complete(usize, u32),
     Stopped(usize, u32),
@@ -88,7 +90,7 @@ pub fn plain_ground(job: &[u8], allowance: u32, list: &mut [u32]) -> Answer
 
 // What the rule says of the list before any row is laid: the first `relevants` numbers are the relevant variables, by rising number, and an entry
 // has `entry` cells. A refused job has no relevant variables.
-#[derive(Drop)]
+#[derive(Clone, Copy)]
 pub struct Shape {
     pub relevant: [usize; VARIABLE_LIMIT],
     pub relevants: usize,

@@ -154,9 +154,9 @@ module _ (t : ℕ) (s : List ℕ) (at n : ℕ) (items : List Item) where
 
 -- one item more
 
-abbrev Small_term : Term → Type 0
-Small_term (number n) = Unit {0}
-Small_term (variable v) = v < variable_limit
+abbrev SmallTerm : Term → Type 0
+SmallTerm (number n) = Unit {0}
+SmallTerm (variable v) = v < variable_limit
 
 pub or_right : (a b : Bool) → (a || b) ≡ false → b ≡ false
 or_right true b e = let z : ◌≡◌ {A = ℕ} 0 1 = cc in absurd (omega arith)
@@ -173,11 +173,11 @@ var_small s j h n =
     let o : byte_at s j ≡ 1 = omega (arith, n) in
     leb-false variable_limit (be32 s (j + 1)) (rw (eq-eqb (byte_at s j) 1 o) at (or_right (ltb 1 (byte_at s j)) (eqb (byte_at s j) 1 && leb variable_limit (be32 s (j + 1))) h))
 
-small_term : (s : List ℕ) (j : ℕ) → bad_term s j ≡ false → Small_term (term_at s j)
+small_term : (s : List ℕ) (j : ℕ) → bad_term s j ≡ false → SmallTerm (term_at s j)
 unfolding term_at
 small_term s j h = go (eqb (byte_at s j) 0) refl
   where
-    go : (b : Bool) → eqb (byte_at s j) 0 ≡ b → Small_term (elim b [ true ↦ number (be32 s (j + 1)) | false ↦ variable (be32 s (j + 1)) ])
+    go : (b : Bool) → eqb (byte_at s j) 0 ≡ b → SmallTerm (elim b [ true ↦ number (be32 s (j + 1)) | false ↦ variable (be32 s (j + 1)) ])
     go true e = tt
     go false e = var_small s j h (eqb-false (byte_at s j) 0 e)
 
@@ -188,7 +188,7 @@ none_at g f n k e l = go (g (f k)) refl
     go false q = q
     go true q = let z : true ≡ false = sym (any_hit g f n k l q) ∙ e in let y : ◌≡◌ {A = ℕ} 0 1 = cc in absurd (omega arith)
 
-bound_one : (b : List Bool) (t : Term) (v : ℕ) → length b ≡ variable_limit → Small_term t → is_bound (mark_one b t) v ≡ (is_bound b v || in? v (vars_of (t ∷ [])))
+bound_one : (b : List Bool) (t : Term) (v : ℕ) → length b ≡ variable_limit → SmallTerm t → is_bound (mark_one b t) v ≡ (is_bound b v || in? v (vars_of (t ∷ [])))
 unfolding mark_one is_bound in? vars_of any
 bound_one b (number n) v l h = sym (or_false (ltb v variable_limit && get_or b v false))
 bound_one b (variable u) v l h = rw (lt-ltb u variable_limit h) (go (ℕ_discrete v u))
@@ -215,7 +215,7 @@ in_append : (v : ℕ) (xs ys : List Term) → in? v (vars_of (xs ++ ys)) ≡ (in
 unfolding in?
 in_append v xs ys = rw (vars_append xs ys) (any_append (eqb v) (vars_of xs) (vars_of ys))
 
-bound_tab : (b : List Bool) (n : ℕ) (f : ℕ → Term) (v : ℕ) → length b ≡ variable_limit → ((k : ℕ) → k < n → Small_term (f k)) → is_bound (marked b (tab n f)) v ≡ (is_bound b v || in? v (vars_of (tab n f)))
+bound_tab : (b : List Bool) (n : ℕ) (f : ℕ → Term) (v : ℕ) → length b ≡ variable_limit → ((k : ℕ) → k < n → SmallTerm (f k)) → is_bound (marked b (tab n f)) v ≡ (is_bound b v || in? v (vars_of (tab n f)))
 unfolding tab marked in? vars_of any
 bound_tab b zero f v l h = sym (or_false (is_bound b v))
 bound_tab b (suc n) f v l h =

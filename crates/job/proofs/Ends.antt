@@ -20,7 +20,7 @@ use Rattle.job.specs.Bound.{is_bound, free}
 use Rattle.rule.specs.Limits.{cell_limit, index_limit}
 use Rattle.job.specs.Progress.{nothing_yet, arities_of, tables_of, places_of, read_of, sum, Well, Filled}
 use Rattle.job.specs.Fault.{number_of, judged_of, Judges}
-use Rattle.job.specs.Answer.{verdict_of, Last_is, made_of, Kept}
+use Rattle.job.specs.Answer.{verdict_of, LastIs, made_of, Kept}
 use Rattle.job.specs.Grow.{Stepped}
 use Rattle.job.specs.declared.progress.Progress.{Progress}
 use Rattle.job.specs.declared.fault.Fault.{Fault}
@@ -100,8 +100,8 @@ module _ (s : List ℕ) (p : Progress) (w : Well p) where
   unfolding finish
   finish_loose cells index q e = rw (e, finish) refl
 
-  pub last_unsafe : (k : ℕ) → k < p.rule.many → so_far k ≡ none → free p.bound (terms_of (get_or p.rule.heads k no_item)) ≡ true → Last_is (Refused Unsafe (get_or p.places k 0)) s p
-  unfolding Last_is verdict_of
+  pub last_unsafe : (k : ℕ) → k < p.rule.many → so_far k ≡ none → free p.bound (terms_of (get_or p.rule.heads k no_item)) ≡ true → LastIs (Refused Unsafe (get_or p.places k 0)) s p
+  unfolding LastIs verdict_of
   last_unsafe k l e f cells index =
       sym (finish_loose cells index (get_or p.places k 0)
       (sym whole ∙ heads_hit (body_of p.rule) (head_at p.rule) (λ (j : ℕ). get_or p.places j 0) p.rule.many k l e
@@ -120,12 +120,12 @@ module _ (s : List ℕ) (p : Progress) (w : Well p) where
     none_loose : unbound_head (body_of p.rule) (heads_of p.rule) (places_of p) ≡ none
     none_loose = sym whole ∙ (rw k at e)
 
-    pub last_empty : p.rule.many + p.rule.size ≡ 0 → Last_is (Refused Empty (length s)) s p
-    unfolding Last_is verdict_of finish
+    pub last_empty : p.rule.many + p.rule.size ≡ 0 → LastIs (Refused Empty (length s)) s p
+    unfolding LastIs verdict_of finish
     last_empty z cells index = rw (none_loose, finish, size_is, eq-eqb _ _ z) refl
 
-    pub last_fine : (p.rule.many + p.rule.size ≡ 0 → ⊥) → Last_is Accepted s p
-    unfolding Last_is verdict_of finish
+    pub last_fine : (p.rule.many + p.rule.size ≡ 0 → ⊥) → LastIs Accepted s p
+    unfolding LastIs verdict_of finish
     last_fine z cells index = rw (none_loose, finish, size_is, ne_eqb _ _ z) refl
 
 -- the reading
@@ -225,9 +225,9 @@ module _ (s : List ℕ) (at : ℕ) (p : Progress) (cells index : List ℕ) (g : 
 pub is_fine : (r : Judged) (s : List ℕ) (at : ℕ) (p : Progress) → r ≡ Fine → Judges r s at p 0 → Judges Fine s at p 0
 is_fine r s at p e j = subst (λ (x : Judged). Judges x s at p 0) e j
 
-pub accepts : (s : List ℕ) (at : ℕ) (p : Progress) (cells index : List ℕ) (r : Verdict) → Going s at (read_of p cells index) → length s ≤ at → Last_is r s p
+pub accepts : (s : List ℕ) (at : ℕ) (p : Progress) (cells index : List ℕ) (r : Verdict) → Going s at (read_of p cells index) → length s ≤ at → LastIs r s p
     → verdict_of r (read_of p cells index).job ≡ reading s
-unfolding Last_is
+unfolding LastIs
 accepts s at p cells index r g l h = h cells index ∙ ends s at (read_of p cells index) g l
 
 pub not_accepted : {A : Type 0} (f : Fault) (at : ℕ) → Refused f at ≡ Accepted → A

@@ -19,7 +19,7 @@ use Rattle.rule.specs.Rule.{terms_of, no_item, item_of, item_at, body_of, head_o
 use Rattle.job.specs.Puts.{puts}
 use Rattle.job.specs.Bound.{Bound, marked}
 use Rattle.job.specs.Progress.{cell_from, head_from, comparison_from, row_of, arities_of, tables_of, places_of, read_of, Well, Filled}
-use Rattle.job.specs.Grow.{with_predicate, Row_ready, with_row, with_cells, with_index, with_head, with_item, literal_of, with_literal, with_comparison}
+use Rattle.job.specs.Grow.{with_predicate, RowReady, with_row, with_cells, with_index, with_head, with_item, literal_of, with_literal, with_comparison}
 use Rattle.job.specs.declared.progress.Progress.{Progress}
 use Rattle.job.proofs.Puts.{length_puts, get_or_puts_in, get_or_puts_out}
 use Rattle.job.proofs.TermLaws.{head_is, literal_is, comparison_is}
@@ -170,7 +170,7 @@ module _ (cells index : List ℕ) (p r n a : ℕ) (f : ℕ → ℕ) where
       let e : get_or (set index (row_limit * p + r) n) (row_limit * p + r) 0 ≡ n = get_or-set_same index (row_limit * p + r) n 0 hi in
       tab_ext a _ _ (λ j l. rw e (sym (get_or_puts_in cells (arity_limit * n) a j f 0 l hc)))
 
-module _ (s : List ℕ) (at group : ℕ) (p : Progress) (w : Well p) (cells index : List ℕ) (f : Filled p cells index) (r : Row_ready s at p)
+module _ (s : List ℕ) (at group : ℕ) (p : Progress) (w : Well p) (cells index : List ℕ) (f : Filled p cells index) (r : RowReady s at p)
     (d : byte_at s (at + 3) < p.rule.predicates) where
   abbrev q₂ : ℕ
   q₂ = byte_at s (at + 3)

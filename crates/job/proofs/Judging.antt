@@ -19,8 +19,8 @@ use Rattle.reader.specs.declared.Frame.{Frame}
 use Rattle.reader.specs.declared.Frame.TheVariants.{Cut, Field}
 use Rattle.job.specs.Progress.{farthest, count_of, arities_of, tables_of, row_of, job_with, sum, Well}
 use Rattle.job.specs.declared.table.Line.{Line}
-use Rattle.job.specs.Table.{last_tag, Line_is, exact_of, places_in, undeclared, Places_are}
-use Rattle.job.specs.Fault.{Judges, Field_at}
+use Rattle.job.specs.Table.{last_tag, LineIs, exact_of, places_in, undeclared, PlacesAre}
+use Rattle.job.specs.Fault.{Judges, FieldAt}
 use Rattle.job.specs.declared.progress.Progress.{Progress}
 use Rattle.job.specs.declared.fault.Fault.TheVariants.{Cut as CutF, Tag as TagF, Group, Limit, Undeclared, Length, Range, Unbound}
 use Rattle.job.specs.declared.fault.Judged.{Judged}
@@ -90,7 +90,7 @@ module _ (s : List ℕ) (at : ℕ) where
   judge_cut p r e h cells index = here 2 _ _ (cut_is (sym e ∙ h))
 
   module _ (p : Progress) (tag len : ℕ) (r : Frame) (e : r ≡ Field tag len) (h : r ≡ frame_at s at) (near : at + 128 < farthest) where
-    pub field_at : Field_at s at tag len
+    pub field_at : FieldAt s at tag len
     field_at = let q = field_is tag len (sym e ∙ h) in record { tag_is = q.1; length_is = q.2; near = near }
 
     pub judge_field : (x : Judged) → Judges x s at p 1 → Judges x s at p 0
@@ -100,9 +100,9 @@ module _ (s : List ℕ) (at : ℕ) where
 -- the predicate that the field names
 
 module _ (tag : ℕ) (s : List ℕ) (at : ℕ) (p : Progress) where
-  module _ (r : Line) (l : Line_is r (line_of (tag_of tag))) where
-    pub names_none : r.upto ≡ 0 → Places_are (Of 0) tag s at p
-    unfolding Places_are undeclared places_at
+  module _ (r : Line) (l : LineIs r (line_of (tag_of tag))) where
+    pub names_none : r.upto ≡ 0 → PlacesAre (Of 0) tag s at p
+    unfolding PlacesAre undeclared places_at
     names_none z = let e : (line_of (tag_of tag)).up_to ≡ 0 = sym l.up_to ∙ z in (rw e, rw (e, places_at) refl, omega arith)
 
     module _ (k : ℕ) (n : r.upto ≡ 0 → ⊥) (e : k ≡ byte_at s (at + 2 + r.upto)) where
@@ -112,27 +112,27 @@ module _ (tag : ℕ) (s : List ℕ) (at : ℕ) (p : Progress) where
       named : k ≡ predicate_at (tag_of tag) s at
       named = e ∙ ap (λ (i : ℕ). byte_at s (at + 2 + i)) l.up_to
 
-      pub names_missing : p.rule.predicates ≤ k → Places_are Missing tag s at p
-      unfolding Places_are undeclared
+      pub names_missing : p.rule.predicates ≤ k → PlacesAre Missing tag s at p
+      unfolding PlacesAre undeclared
       names_missing h = rw (names, ← named) (le-leb _ _ h)
 
-      pub names_one : Well p → k < p.rule.predicates → Places_are (Of (get_or p.arities k 0)) tag s at p
-      unfolding Places_are undeclared places_at arities_of
+      pub names_one : Well p → k < p.rule.predicates → PlacesAre (Of (get_or p.arities k 0)) tag s at p
+      unfolding PlacesAre undeclared places_at arities_of
       names_one w h =
           (rw (names, ← named) (lt-leb _ _ h), rw (names, places_at, ← named) (sym (get_or_tab (λ (q : ℕ). get_or p.arities q 0) p.rule.predicates k 0 h)), w.arity k)
 
-  module _ (r : Places) (h : Places_are r tag s at p) where
+  module _ (r : Places) (h : PlacesAre r tag s at p) where
     pub told_of : (n : ℕ) → r ≡ Of n → (undeclared tag s at p ≡ false) × (n ≡ places_in tag s at p) × (n ≤ arity_limit)
-    unfolding Places_are
-    told_of n e = subst (λ (x : Places). Places_are x tag s at p) e h
+    unfolding PlacesAre
+    told_of n e = subst (λ (x : Places). PlacesAre x tag s at p) e h
 
     pub told_missing : r ≡ Missing → undeclared tag s at p ≡ true
-    unfolding Places_are
-    told_missing e = subst (λ (x : Places). Places_are x tag s at p) e h
+    unfolding PlacesAre
+    told_missing e = subst (λ (x : Places). PlacesAre x tag s at p) e h
 
 -- the ways out
 
-module _ (s : List ℕ) (at tag len : ℕ) (p : Progress) (f : Field_at s at tag len) where
+module _ (s : List ℕ) (at tag len : ℕ) (p : Progress) (f : FieldAt s at tag len) where
   -- 7, 8, 9
   module _ (n : ℕ) (q : n ≡ places_in tag s at p) where
     pub content_length : (len ≡ exact_of tag n → ⊥) → Judges (Faulty Length) s at p 6

@@ -14,9 +14,9 @@ use Rattle.rule.specs.Rule.{body_of}
 use Rattle.meaning.specs.Job.{predicate_limit, row_limit, head_limit, item_limit, arity_limit, Comparison, comparison}
 use Rattle.job.specs.declared.table.Line.{Line}
 use Rattle.job.specs.Progress.{farthest, comparison_from, count_of, arities_of, job_with, Well, Filled}
-use Rattle.job.specs.Table.{Line_is, places_in}
+use Rattle.job.specs.Table.{LineIs, places_in}
 use Rattle.job.specs.Fault.{Judges}
-use Rattle.job.specs.Grow.{Named, Row_ready, Row_added, Sound, Ready, Stepped, with_predicate, with_head, literal_of, with_literal, with_comparison, next_record, next_cells, next_index}
+use Rattle.job.specs.Grow.{Named, RowReady, RowAdded, Sound, Ready, Stepped, with_predicate, with_head, literal_of, with_literal, with_comparison, next_record, next_cells, next_index}
 use Rattle.job.specs.declared.progress.Progress.{Progress}
 use Rattle.job.specs.declared.fault.Judged.TheVariants.{Fine}
 use Rattle.job.proofs.Judging.{count_is}
@@ -63,7 +63,7 @@ sound s at p w j =
 pub tag_at_lem : (s : List ℕ) (at t : ℕ) (x : Tag) → t ≡ tag_at s at → tag_of t ≡ x → tag_of (tag_at s at) ≡ x
 tag_at_lem s at t x q e = ap tag_of (sym q) ∙ e
 
-pub group_is : (r : Line) (t : ℕ) (x : Tag) → Line_is r (line_of (tag_of t)) → tag_of t ≡ x → r.group ≡ (line_of x).group
+pub group_is : (r : Line) (t : ℕ) (x : Tag) → LineIs r (line_of (tag_of t)) → tag_of t ≡ x → r.group ≡ (line_of x).group
 group_is r t x l e = l.group ∙ ap (λ (y : Tag). (line_of y).group) e
 
 module _ (s : List ℕ) (at : ℕ) (p : Progress) (h : Ready s at p) where
@@ -85,7 +85,7 @@ module _ (s : List ℕ) (at : ℕ) (p : Progress) (h : Ready s at p) where
   unfolding count_of
   ready_1 e = (h.near, room predicate_tag e)
 
-  pub ready_2 : tag_of (tag_at s at) ≡ row_tag → Row_ready s at p
+  pub ready_2 : tag_of (tag_at s at) ≡ row_tag → RowReady s at p
   unfolding count_of
   ready_2 e = record {
     named = named row_tag e (at + 3) (omega arith) (omega arith);
@@ -106,7 +106,7 @@ module _ (s : List ℕ) (at : ℕ) (p : Progress) (h : Ready s at p) where
   ready_rest k e = (h.near, room (comparison_tag k) e)
 
   module _ (group : ℕ) (r : Progress) (cells index : List ℕ) (f : Filled p cells index) where
-    pub step_2 : (cells' index' : List ℕ) → tag_of (tag_at s at) ≡ row_tag → group ≡ 2 → Row_added s at group p r cells index cells' index' → Stepped s at p r cells index cells' index'
+    pub step_2 : (cells' index' : List ℕ) → tag_of (tag_at s at) ≡ row_tag → group ≡ 2 → RowAdded s at group p r cells index cells' index' → Stepped s at p r cells index cells' index'
     unfolding next_record next_cells next_index
     step_2 cells' index' e g q =
         let m = ready_2 e in
@@ -185,6 +185,6 @@ module _ (s : List ℕ) (at : ℕ) (p : Progress) (h : Ready s at p) where
         })
 
 -- the sizes of what `grow_row` stores, at the predicate that it read
-pub row_small : (s : List ℕ) (at : ℕ) (p : Progress) (q : ℕ) → Row_ready s at p → q ≡ byte_at s (at + 3)
+pub row_small : (s : List ℕ) (at : ℕ) (p : Progress) (q : ℕ) → RowReady s at p → q ≡ byte_at s (at + 3)
     → (at + 128 < farthest) × (q < predicate_limit) × (get_or p.arities q 0 ≤ arity_limit) × (get_or p.rows q 0 ≤ p.total) × (p.total < row_limit)
 row_small s at p q h e = rw e (h.named.near, h.named.declared, h.named.arity, h.count, h.room)

@@ -9,7 +9,7 @@ use lib.ListN.{get_or, get_or-eq_default}
 use borrow.Author.Tests.{eq-eqb, ne_eqb}
 use Rattle.meaning.specs.Reading.{Tag, predicate_tag, row_tag, head_tag, literal_tag, comparison_tag, tags, tag_of, line_of}
 use Rattle.job.specs.Progress.{count_of}
-use Rattle.job.specs.Table.{last_tag, comparison_at, Line_is}
+use Rattle.job.specs.Table.{last_tag, comparison_at, LineIs}
 use Rattle.job.specs.declared.table.Line.{Line}
 use Rattle.job.specs.declared.progress.Progress.{Progress}
 
@@ -86,7 +86,7 @@ column t k = get_or (get_or fields t []) k 0
 abbrev row : ℕ → Line
 row t = record { group = column t 0; limit = column t 1; smallest = column t 2; upto = column t 3; each = column t 4 }
 
-pub line_is : (t : ℕ) → 1 ≤ t → t ≤ last_tag → Line_is (row t) (line_of (tag_of t))
+pub line_is : (t : ℕ) → 1 ≤ t → t ≤ last_tag → LineIs (row t) (line_of (tag_of t))
 line_is zero l h = absurd (omega arith)
 line_is (suc zero) l h = record { group = refl; limit = refl; smallest = refl; up_to = refl; each = refl }
 line_is (suc (suc zero)) l h = record { group = refl; limit = refl; smallest = refl; up_to = refl; each = refl }
@@ -103,12 +103,12 @@ exact_small head_tag n h = (omega arith, omega arith)
 exact_small literal_tag n h = (omega arith, omega arith)
 exact_small (comparison_tag k) n h = (omega arith, omega arith)
 
-pub exact_fits : (r : Line) (t n : ℕ) → Line_is r (line_of (tag_of t)) → n ≤ arity_limit
+pub exact_fits : (r : Line) (t n : ℕ) → LineIs r (line_of (tag_of t)) → n ≤ arity_limit
     → (r.each * n ≤ 30) × (r.smallest + r.each * n ≤ 30) × (r.smallest + r.each * n ≡ (line_of (tag_of t)).smallest + (line_of (tag_of t)).each * n)
 exact_fits r t n l h =
     let e : r.smallest + r.each * n ≡ (line_of (tag_of t)).smallest + (line_of (tag_of t)).each * n = rw (l.smallest, l.each) refl in
     let k = (exact_small (tag_of t) n h).0 in
     (omega arith, omega arith, e)
 
-pub upto_small : (r : Line) (t : ℕ) → Line_is r (line_of (tag_of t)) → r.upto ≤ 2
+pub upto_small : (r : Line) (t : ℕ) → LineIs r (line_of (tag_of t)) → r.upto ≤ 2
 upto_small r t l = rw l.up_to (exact_small (tag_of t) 0 (omega arith)).1

@@ -25,8 +25,8 @@ abbrev pub reading_of : ReadJob → List ℕ → List ℕ → Reading
 reading_of r cells index = verdict_of r.verdict (job_of r.made cells index)
 
 -- after the last field, whatever the cells
-unfoldable pub Last_is : Verdict → List ℕ → Progress → Type 0
-Last_is r s p = (cells index : List ℕ) → verdict_of r (read_of p cells index).job ≡ finish s (read_of p cells index)
+unfoldable pub LastIs : Verdict → List ℕ → Progress → Type 0
+LastIs r s p = (cells index : List ℕ) → verdict_of r (read_of p cells index).job ≡ finish s (read_of p cells index)
 
 abbrev pub made_of : Progress → Made
 made_of p = record { rule = p.rule; arities = p.arities; rows = p.rows; total = p.total }

@@ -31,7 +31,7 @@ unfoldable pub Judges : Judged → List ℕ → ℕ → Progress → ℕ → Typ
 Judges r s at p k = (cells index : List ℕ) → judged_of r ≡ first (drop k (refusals s at (read_of p cells index)))
 
 -- the tag and the length of the field at `at`
-pub record Field_at (s : List ℕ) (at tag length : ℕ) : Type 0 where
+pub record FieldAt (s : List ℕ) (at tag length : ℕ) : Type 0 where
   pub tag_is : tag ≡ tag_at s at
   pub length_is : length ≡ length_at s at
   pub near : at + 128 < farthest

@@ -35,7 +35,7 @@ pub record Named (s : List ℕ) (at i : ℕ) (p : Progress) : Type 0 where
   pub arity : get_or p.arities (byte_at s i) 0 ≤ arity_limit
 
 -- and there is room for a row
-pub record Row_ready (s : List ℕ) (at : ℕ) (p : Progress) : Type 0 where
+pub record RowReady (s : List ℕ) (at : ℕ) (p : Progress) : Type 0 where
   pub named : Named s at (at + 3) p
   pub room : p.total < row_limit
   pub count : get_or p.rows (byte_at s (at + 3)) 0 ≤ p.total
@@ -57,7 +57,7 @@ with_cells s at p cells = puts cells (arity_limit * p.total) (get_or p.arities (
 abbrev pub with_index : List ℕ → ℕ → Progress → List ℕ → List ℕ
 with_index s at p index = set index (row_limit * byte_at s (at + 3) + get_or p.rows (byte_at s (at + 3)) 0) p.total
 
-pub record Row_added (s : List ℕ) (at group : ℕ) (p r : Progress) (cells index cells' index' : List ℕ) : Type 0 where
+pub record RowAdded (s : List ℕ) (at group : ℕ) (p r : Progress) (cells index cells' index' : List ℕ) : Type 0 where
   pub record_is : r ≡ with_row s at group p
   pub cells_are : cells' ≡ with_cells s at p cells
   pub index_is : index' ≡ with_index s at p index

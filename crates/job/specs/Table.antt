@@ -17,7 +17,7 @@ unfoldable pub comparison_at : ℕ → Comparison
 comparison_at tag = elim (eqb tag 5) [ true ↦ less_than | false ↦ before ]
 
 -- the code's line stands for the meaning's
-pub record Line_is (r : Line) (l : LineOf) : Type 0 where
+pub record LineIs (r : Line) (l : LineOf) : Type 0 where
   pub group : r.group ≡ l.group
   pub limit : r.limit ≡ l.limit
   pub smallest : r.smallest ≡ l.smallest
@@ -36,6 +36,6 @@ places_in tag s at p = places_at (tag_of tag) s at (arities_of p.rule p.arities)
 unfoldable pub undeclared : ℕ → List ℕ → ℕ → Progress → Bool
 undeclared tag s at p = ltb 0 (line_of (tag_of tag)).up_to && leb p.rule.predicates (predicate_at (tag_of tag) s at)
 
-unfoldable pub Places_are : Places → ℕ → List ℕ → ℕ → Progress → Type 0
-Places_are (Of n) tag s at p = (undeclared tag s at p ≡ false) × (n ≡ places_in tag s at p) × (n ≤ arity_limit)
-Places_are Undeclared tag s at p = undeclared tag s at p ≡ true
+unfoldable pub PlacesAre : Places → ℕ → List ℕ → ℕ → Progress → Type 0
+PlacesAre (Of n) tag s at p = (undeclared tag s at p ≡ false) × (n ≡ places_in tag s at p) × (n ≤ arity_limit)
+PlacesAre Undeclared tag s at p = undeclared tag s at p ≡ true

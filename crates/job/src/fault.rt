@@ -2,7 +2,7 @@
 ghost use Rattle.std.specs.Prelude.{◌≡◌};
 ghost use Rattle.job.specs.Fault.{number_of};
 
-#[derive(Drop)]
+#[derive(Clone, Copy)]
 pub enum Fault {
     Long,
     Cut,
@@ -17,14 +17,14 @@ pub enum Fault {
     Empty,
 }
 
-#[derive(Drop)]
+#[derive(Clone, Copy)]
 pub enum Judged {
     Fine,
     Faulty(Fault),
 }
 
 // How the reading of a job ends: a refusal has its place.
-#[derive(Drop)]
+#[derive(Clone, Copy)]
 pub enum Verdict {
     Accepted,
     Refused(Fault, usize),

@@ -1,9 +1,9 @@
 // The first fault of a field, in the order of document 01's table.
 ghost use Rattle.std.specs.Prelude.{◌≡◌, ◌+◌, ◌≤◌, ◌<◌};
 ghost use Rattle.meaning.specs.Job.{arity_limit};
-ghost use Rattle.job.specs.Table.{last_tag, Places_are, exact_of, places_in};
+ghost use Rattle.job.specs.Table.{last_tag, PlacesAre, exact_of, places_in};
 ghost use Rattle.job.specs.Progress.{farthest, Well};
-ghost use Rattle.job.specs.Fault.{Judges, Field_at};
+ghost use Rattle.job.specs.Fault.{Judges, FieldAt};
 
 use crate::bytes::byte;
 use crate::fault::{Fault, Judged};
@@ -14,7 +14,7 @@ use reader::Frame;
 use rule::PREDICATE_LIMIT;
 
 // How many places the predicate of a field has, or that it is not declared.
-#[derive(Drop)]
+#[derive(Clone, Copy)]
 pub enum Places {
     Of(usize),
     Undeclared,
@@ -29,7 +29,7 @@ fn places_of<'a>(
     arities: &'a [usize; PREDICATE_LIMIT],
 ) -> Places
     requires { (at + 128 < farthest) × (1 ≤ tag) × (tag ≤ last_tag) × Well p × (arities.now ≡ p.arities) }
-    ensures { Places_are result tag bytes.now at p }
+    ensures { PlacesAre result tag bytes.now at p }
 {
     let line = line_of(tag);
     if line.upto == 0 {
@@ -60,7 +60,7 @@ fn judge_content(
     n: usize,
     p: Progress,
 ) -> Judged
-    requires { Field_at bytes.now at tag length × (1 ≤ tag) × (tag ≤ last_tag) × Well p × (n ≤ arity_limit) × (n ≡ places_in tag bytes.now at p) }
+    requires { FieldAt bytes.now at tag length × (1 ≤ tag) × (tag ≤ last_tag) × Well p × (n ≤ arity_limit) × (n ≡ places_in tag bytes.now at p) }
     ensures { Judges result bytes.now at p 6 }
 {
     if length != exact(tag, n) {
@@ -87,7 +87,7 @@ fn judge_named<'a>(
     p: Progress,
     arities: &'a [usize; PREDICATE_LIMIT],
 ) -> Judged
-    requires { Field_at bytes.now at tag length × (1 ≤ tag) × (tag ≤ last_tag) × Well p × (arities.now ≡ p.arities) }
+    requires { FieldAt bytes.now at tag length × (1 ≤ tag) × (tag ≤ last_tag) × Well p × (arities.now ≡ p.arities) }
     ensures { Judges result bytes.now at p 4 }
 {
     let line = line_of(tag);
@@ -109,7 +109,7 @@ fn judge_tag<'a>(
     p: Progress,
     arities: &'a [usize; PREDICATE_LIMIT],
 ) -> Judged
-    requires { Field_at bytes.now at tag length × Well p × (arities.now ≡ p.arities) }
+    requires { FieldAt bytes.now at tag length × Well p × (arities.now ≡ p.arities) }
     ensures { Judges result bytes.now at p 1 }
 {
     if tag < 1 {

@@ -1,6 +1,6 @@
 // After the last field.
 ghost use Rattle.job.specs.Progress.{Well};
-ghost use Rattle.job.specs.Answer.{Last_is};
+ghost use Rattle.job.specs.Answer.{LastIs};
 
 use crate::bound::free_terms;
 use crate::fault::{Fault, Verdict};
@@ -9,7 +9,7 @@ use crate::progress::Progress;
 // 10, then 11.
 pub fn last(bytes: &[u8], p: Progress) -> Verdict
     requires { Well p }
-    ensures { Last_is result bytes.now p }
+    ensures { LastIs result bytes.now p }
 {
     let bound = p.bound;
     let rule = p.rule;

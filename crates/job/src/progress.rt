@@ -10,7 +10,7 @@ use rule::{
 
 // The last field's group; the places of the heads; which variables the positive literals hold; the rule; of each predicate its arity and
 // how many rows it has; how many rows there are.
-#[derive(Drop)]
+#[derive(Clone, Copy)]
 pub struct Progress {
     pub group: usize,
     pub places: [usize; HEAD_LIMIT],

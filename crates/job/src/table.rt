@@ -2,7 +2,7 @@
 ghost use Rattle.std.specs.Prelude.{◌≡◌, ◌≤◌};
 ghost use Rattle.meaning.specs.Reading.{tag_of, line_of};
 ghost use Rattle.rule.specs.Rule.{kind_of};
-ghost use Rattle.job.specs.Table.{last_tag, comparison_at, Line_is};
+ghost use Rattle.job.specs.Table.{last_tag, comparison_at, LineIs};
 
 use rule::{HEAD_LIMIT, ITEM_LIMIT, PREDICATE_LIMIT, ROW_LIMIT};
 
@@ -29,7 +29,7 @@ const FIELDS: [[usize; 5]; 7] = [
     [4, ITEM_LIMIT, 10, 0, 0],
 ];
 
-#[derive(Drop)]
+#[derive(Clone, Copy)]
 pub struct Line {
     pub group: usize,
     pub limit: usize,
@@ -40,7 +40,7 @@ pub struct Line {
 
 pub fn line_of(tag: usize) -> Line
     requires { (1 ≤ tag) × (tag ≤ last_tag) }
-    ensures { Line_is result (line_of (tag_of tag)) }
+    ensures { LineIs result (line_of (tag_of tag)) }
 {
     let line = FIELDS[tag];
     let group = line[0];

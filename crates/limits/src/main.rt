@@ -1,4 +1,6 @@
 // Reads each file that an argument names as a job, and writes whether it is accepted, or the refusal's number and place.
+#![tactic(auto)]
+
 use job::fault::Verdict;
 use libc::STDOUT_FILENO;
 use rule::{CELL_LIMIT, INDEX_LIMIT};

@@ -1,4 +1,6 @@
 // The lister's text for an answer: document 01, case 2.
+#![tactic(auto)]
+
 ghost use Rattle.std.specs.Prelude.{[], ◌∷◌, ◌++◌, ◌≤◌, length, take};
 ghost use Rattle.lines.specs.Lines.{vars, spaced, line, entry_line, entry_lines, run_lines, lines_of};
 ghost use Rattle.lines.specs.Put.{Put, Written};

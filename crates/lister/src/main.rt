@@ -1,5 +1,7 @@
 // The lister: reads a job's raw bytes from standard input and prints the list (document 01, "Cases"), by the walk or, where its argument is
 // `--plain`, by the plain engine.
+#![tactic(auto)]
+
 ghost use Rattle.std.specs.Prelude.{◌≡◌};
 ghost use Rattle.meaning.specs.Basics.{same};
 ghost use Rattle.lister.specs.Word.{plain_word};

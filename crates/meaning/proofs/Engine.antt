@@ -12,7 +12,7 @@ use Rattle.meaning.specs.List.{complete, stopped, full, Searched, entry_size, in
 use Rattle.meaning.specs.Plain.{plain_count}
 use Rattle.meaning.specs.Walk.{walk}
 use Rattle.meaning.proofs.Basics.{complete≢stopped, complete≢full, only_complete, begins_trans, begins_length}
-use Rattle.meaning.proofs.Enlist.{No_room, Wide, Cut}
+use Rattle.meaning.proofs.Enlist.{NoRoom, Wide, Cut}
 use Rattle.meaning.proofs.Meaning as meaning
 use Rattle.meaning.proofs.Count.{Made, tests_made}
 use Rattle.meaning.proofs.Grow as grow
@@ -27,7 +27,7 @@ module _ (J : Job) where
     pub made : (a lent : ℕ) → Made J 0 a (E a lent)
     -- its list fits the lent cells; full, it has fewer free than one entry; with room enough it is never full
     pub fit : (a lent : ℕ) → length (E a lent).entries * entry_size J.rule ≤ lent
-    pub over : (a lent : ℕ) → (E a lent).ending ≡ full → No_room J lent (E a lent).entries
+    pub over : (a lent : ℕ) → (E a lent).ending ≡ full → NoRoom J lent (E a lent).entries
     pub never_full : (a lent : ℕ) → suc (plain_count J) * entry_size J.rule ≤ lent → (E a lent).ending ≢ full
     -- with more allowance, and with more cells
     pub more_allowance : (a b lent : ℕ) → Begins (E a lent).entries (E (a + b) lent).entries

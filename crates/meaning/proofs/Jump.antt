@@ -48,18 +48,18 @@ module _ (J : Job) where
   abbrev pub Good : Rows → ℕ → Type 0
   Good s i = (s i < count J i) × T (fits J i s)
 
-  abbrev pub All_good : Rows → Type 0
-  All_good s = (i : ℕ) → i < size J.rule → Good s i
+  abbrev pub AllGood : Rows → Type 0
+  AllGood s = (i : ℕ) → i < size J.rule → Good s i
 
-  abbrev pub Group_good : ℕ → Rows → Type 0
-  Group_good p s = (i : ℕ) → Group J.rule p i → Good s i
+  abbrev pub GroupGood : ℕ → Rows → Type 0
+  GroupGood p s = (i : ℕ) → Group J.rule p i → Good s i
 
   pub good_local : (i : ℕ) (s t : Rows) → s i ≡ t i → ((p : ℕ) → T (binds J.rule (vars (item_at J.rule i)) p) → s p ≡ t p) → Good s i → Good t i
   good_local i s t e h g = (subst (λ (x : ℕ). x < count J i) e g.0, subst T (fits_local J i s t e h) g.1)
 
   -- no position from t on and before p binds one of vs
-  abbrev pub None_binds : List ℕ → ℕ → ℕ → Type 0
-  None_binds vs t p = (i : ℕ) → t ≤ i → i < p → T (binds J.rule vs i) → ⊥
+  abbrev pub NoneBinds : List ℕ → ℕ → ℕ → Type 0
+  NoneBinds vs t p = (i : ℕ) → t ≤ i → i < p → T (binds J.rule vs i) → ⊥
 
   variables_intro : (ps : List ℕ) (i p : ℕ) → Memᴰ i ps → T (binds J.rule (vars (item_at J.rule i)) p) → T (binds J.rule (variables_of J.rule ps) p)
   unfolding variables_of
@@ -79,36 +79,36 @@ module _ (J : Job) where
   binds_right vs ws p t = let r = binds_elim J.rule ws p t in binds_intro J.rule (vs ++ ws) r.0 p (Memᴰ.append_right vs r.1) r.2
 
   -- K holds of the values that are in the list. All that agrees with a before t is in it
-  abbrev pub Safe_to : Rows → (List ℕ → Type 0) → ℕ → Type 0
-  Safe_to a K t = (s : Rows) → All_good s → Agree s a t → K (values J s)
+  abbrev pub SafeTo : Rows → (List ℕ → Type 0) → ℕ → Type 0
+  SafeTo a K t = (s : Rows) → AllGood s → Agree s a t → K (values J s)
 
   -- COVER: so is all that comes before a at a position before p
   abbrev pub Cover : Rows → (List ℕ → Type 0) → ℕ → Type 0
-  Cover a K p = (s : Rows) → All_good s → (i : ℕ) → i < p → Agree s a i → s i < a i → K (values J s)
+  Cover a K p = (s : Rows) → AllGood s → (i : ℕ) → i < p → Agree s a i → s i < a i → K (values J s)
 
   -- FAIL: where the mark is clear, no earlier row makes the group hold
-  abbrev pub Fail_at : Rows → List Bool → ℕ → Type 0
-  Fail_at a marks i = mark_at marks i ≡ false → (s : Rows) → Agree s a i → s i < a i → Group_good i s → ⊥
+  abbrev pub FailAt : Rows → List Bool → ℕ → Type 0
+  FailAt a marks i = mark_at marks i ≡ false → (s : Rows) → Agree s a i → s i < a i → GroupGood i s → ⊥
 
   -- what is known on arrival at t, of the row that fitted there
   abbrev pub Hit : Rows → List Bool → (List ℕ → Type 0) → ℕ → Type 0
-  Hit a marks K t = Safe_to a K (suc t) × (mark_at marks t ≡ false → (s : Rows) → Agree s a (suc t) → Group_good t s → ⊥)
+  Hit a marks K t = SafeTo a K (suc t) × (mark_at marks t ≡ false → (s : Rows) → Agree s a (suc t) → GroupGood t s → ⊥)
 
   -- the walk ends and every instance is in the list, or it arrives with a row left
   abbrev pub Landed : Rows → List Bool → (List ℕ → Type 0) → List ℕ → ℕ → Option ℕ → Type 0
-  Landed a marks K next p none = (s : Rows) → All_good s → K (values J s)
+  Landed a marks K next p none = (s : Rows) → AllGood s → K (values J s)
   Landed a marks K next p (some t) = (t < p) × (next_at next t < count J t) × Hit a marks K t
 
   -- why the walk may go back from p to the greatest position that binds one of vs: all marks before p are set and what agrees is in the list;
   -- or some items, which are in the group of every such position, hold under nothing that agrees
   pub data Reason (a : Rows) (marks : List Bool) (K : List ℕ → Type 0) (vs : List ℕ) (p : ℕ) : Type 1 where
-    found : ((i : ℕ) → i < p → T (mark_at marks i)) → ((t : ℕ) → t ≤ p → None_binds vs t p → Safe_to a K t) → Reason a marks K vs p
+    found : ((i : ℕ) → i < p → T (mark_at marks i)) → ((t : ℕ) → t ≤ p → NoneBinds vs t p → SafeTo a K t) → Reason a marks K vs p
     dead : (X : ℕ → Type 0) → ((i : ℕ) → X i → i < size J.rule) → ((j i : ℕ) → j < p → T (binds J.rule vs j) → X i → Group J.rule j i)
-        → ((t : ℕ) → t ≤ p → None_binds vs t p → (s : Rows) → Agree s a t → ((i : ℕ) → X i → Good s i) → ⊥) → Reason a marks K vs p
+        → ((t : ℕ) → t ≤ p → NoneBinds vs t p → (s : Rows) → Agree s a t → ((i : ℕ) → X i → Good s i) → ⊥) → Reason a marks K vs p
 
   module _ (safe : Safe J.rule) (a : Rows) where
     -- the graft lemma: where nothing from t on and before p binds one of vs, a graft at p of what agrees before t keeps what vs decide
-    module _ (vs : List ℕ) (t p : ℕ) (nothing : None_binds vs t p) (s : Rows) (agree : Agree s a t) where
+    module _ (vs : List ℕ) (t p : ℕ) (nothing : NoneBinds vs t p) (s : Rows) (agree : Agree s a t) where
       graft_on : (i : ℕ) → T (binds J.rule vs i) → graft p a s i ≡ s i
       graft_on i u =
           elim (lt_or_le i p) [
@@ -125,7 +125,7 @@ module _ (J : Job) where
       graft_values : ((j : ℕ) → T (binds J.rule (relevant J.rule) j) → T (binds J.rule vs j)) → values J (graft p a s) ≡ values J s
       graft_values sub = values_local J (graft p a s) s (λ j u. graft_on j (sub j u))
 
-      graft_all : ((i : ℕ) → i < p → Good a i) → ((i j : ℕ) → p ≤ i → i < size J.rule → T (binds J.rule (vars (item_at J.rule i)) j) → T (binds J.rule vs j)) → All_good s → All_good (graft p a s)
+      graft_all : ((i : ℕ) → i < p → Good a i) → ((i j : ℕ) → p ≤ i → i < size J.rule → T (binds J.rule (vars (item_at J.rule i)) j) → T (binds J.rule vs j)) → AllGood s → AllGood (graft p a s)
       graft_all path sub v i h =
           elim (lt_or_le i p) [
             | inl l ↦ good_local i a (graft p a s) (sym (graft_lt p a s i l)) (λ j n. sym (graft_lt p a s j (let q = binds_le J.rule safe i j h n in omega arith))) (path i l)
@@ -138,7 +138,7 @@ module _ (J : Job) where
       unfolding variables
       reason_whole m k = found m (λ t l nothing s v agree. subst K (values_local J a s (λ i u. sym (agree i (below t nothing i u)))) k)
         where
-          below : (t : ℕ) → None_binds (relevant J.rule) t (size J.rule) → (i : ℕ) → T (binds J.rule (relevant J.rule) i) → i < t
+          below : (t : ℕ) → NoneBinds (relevant J.rule) t (size J.rule) → (i : ℕ) → T (binds J.rule (relevant J.rule) i) → i < t
           below t nothing i u = elim (lt_or_le i t) [ inl l ↦ l | inr l ↦ absurd (nothing i l (relevant_lt J.rule safe i u) u) ]
 
       -- after entering an item that nothing fits
@@ -150,7 +150,7 @@ module _ (J : Job) where
           (λ t l nothing s agree g. none-fit (graft p a s) (graft_lt p a s) (graft_good (vars (item_at J.rule p)) t p nothing s agree p (omega arith) (λ j n. n) (g p refl)))
 
       -- after running out later, mark clear
-      pub reason_clear : (p : ℕ) → p < size J.rule → ((s : Rows) → Agree s a p → Group_good p s → ⊥) → Reason a marks K (variables J.rule ran_out_clear p) p
+      pub reason_clear : (p : ℕ) → p < size J.rule → ((s : Rows) → Agree s a p → GroupGood p s → ⊥) → Reason a marks K (variables J.rule ran_out_clear p) p
       unfolding variables
       reason_clear p h none-ok =
           dead (Group J.rule p) (λ i c. (group_in J.rule p i h c).1)
@@ -162,7 +162,7 @@ module _ (J : Job) where
           (λ j n. variables_intro (group J.rule p) i j (is_group J.rule p i h c) n) (g i c)))
 
       -- after running out later, mark set
-      pub reason_set : (p : ℕ) → ((i : ℕ) → i < p → T (mark_at marks i)) → ((i : ℕ) → i < p → Good a i) → Safe_to a K p → Reason a marks K (variables J.rule ran_out_set p) p
+      pub reason_set : (p : ℕ) → ((i : ℕ) → i < p → T (mark_at marks i)) → ((i : ℕ) → i < p → Good a i) → SafeTo a K p → Reason a marks K (variables J.rule ran_out_set p) p
       unfolding variables
       reason_set p m path safe-to =
           found m (λ t l nothing s v agree.
@@ -176,8 +176,8 @@ module _ (J : Job) where
           later = variables_of J.rule (from p (size J.rule - p))
 
       -- after running out later, whichever the mark
-      pub reason_out : (p : ℕ) → p < size J.rule → Nested marks → ((i : ℕ) → i < p → Good a i) → Safe_to a K p
-          → (mark_at marks p ≡ false → (s : Rows) → Agree s a p → Group_good p s → ⊥) → Reason a marks K (variables J.rule (ran_out marks p) p) p
+      pub reason_out : (p : ℕ) → p < size J.rule → Nested marks → ((i : ℕ) → i < p → Good a i) → SafeTo a K p
+          → (mark_at marks p ≡ false → (s : Rows) → Agree s a p → GroupGood p s → ⊥) → Reason a marks K (variables J.rule (ran_out marks p) p) p
       unfolding ran_out
       reason_out p h nested path safe-to none-ok =
           elim (split (mark_at marks p)) [
@@ -192,14 +192,14 @@ module _ (J : Job) where
         λ k s agree g. nope (suc t) (omega arith) (λ i l k. absurd (omega arith)) s agree (λ i e. g i (inside t i (omega arith) u e)),
       )
 
-      wider : (vs : List ℕ) (p : ℕ) → binds J.rule vs p ≡ false → (t : ℕ) → None_binds vs t p → None_binds vs t (suc p)
+      wider : (vs : List ℕ) (p : ℕ) → binds J.rule vs p ≡ false → (t : ℕ) → NoneBinds vs t p → NoneBinds vs t (suc p)
       wider vs p u t nothing i l k v = elim (lt_or_le i p) [ inl z ↦ nothing i l z v | inr z ↦ not_T u (subst (λ (y : ℕ). T (binds J.rule vs y)) (omega arith) v) ]
 
       miss : (vs : List ℕ) (p : ℕ) → binds J.rule vs p ≡ false → Reason a marks K vs (suc p) → Reason a marks K vs p
       miss vs p u (found m safe-to) = found (λ i l. m i (omega arith)) (λ t l nothing. safe-to t (omega arith) (wider vs p u t nothing))
       miss vs p u (dead X small inside nope) = dead X small (λ j i l. inside j i (omega arith)) (λ t l nothing. nope t (omega arith) (wider vs p u t nothing))
 
-      end : (vs : List ℕ) → Reason a marks K vs 0 → (s : Rows) → All_good s → K (values J s)
+      end : (vs : List ℕ) → Reason a marks K vs 0 → (s : Rows) → AllGood s → K (values J s)
       end vs (found m safe-to) s v = safe-to 0 (omega arith) (λ i l k. absurd (omega arith)) s v (λ i l. absurd (omega arith))
       end vs (dead X small inside nope) s v = absurd (nope 0 (omega arith) (λ i l k. absurd (omega arith)) s (λ i l. absurd (omega arith)) (λ i e. v i (small i e)))
 
@@ -208,14 +208,14 @@ module _ (J : Job) where
       landed_suc next p (some t) l = (omega (arith, l.0), l.1, l.2)
 
       -- the rows have run out at t, where the row that fitted was the last
-      exhausted : (t : ℕ) → t < size J.rule → Nested marks → ((i : ℕ) → i < t → Good a i) → Cover a K (suc t) → Fail_at a marks t → Hit a marks K t → count J t ≤ suc (a t) → Reason a marks K (variables J.rule (ran_out marks t) t) t
+      exhausted : (t : ℕ) → t < size J.rule → Nested marks → ((i : ℕ) → i < t → Good a i) → Cover a K (suc t) → FailAt a marks t → Hit a marks K t → count J t ≤ suc (a t) → Reason a marks K (variables J.rule (ran_out marks t) t) t
       exhausted t h nested path cover fail l c = reason_out t h nested path
           (λ s v agree. elim (lt_or_le (s t) (a t)) [ inl k ↦ cover s v t (omega arith) agree k | inr k ↦ l.0 s v (agree_suc s a t agree (omega (arith, (v t h).0))) ])
           (λ e s agree g. elim (lt_or_le (s t) (a t)) [ inl k ↦ fail e s agree k g | inr k ↦ l.1 e s (agree_suc s a t agree (omega (arith, (g t (group_self J.rule t)).0))) g ])
 
       -- the way back: a has the rows that fitted, each the one before the next
       pub back_sound : (next : List ℕ) (p : ℕ) (vs : List ℕ) → p ≤ size J.rule → Nested marks → ((i : ℕ) → i < p → next_at next i ≡ suc (a i)) → ((i : ℕ) → i < p → Good a i)
-          → Cover a K p → ((i : ℕ) → i < p → Fail_at a marks i) → Reason a marks K vs p → Landed a marks K next p (back J next marks vs p)
+          → Cover a K p → ((i : ℕ) → i < p → FailAt a marks i) → Reason a marks K vs p → Landed a marks K next p (back J next marks vs p)
       unfolding back
       back_sound next zero vs small nested rows path cover fail r = end vs r
       back_sound next (suc p) vs small nested rows path cover fail r =

@@ -16,7 +16,7 @@ use Rattle.meaning.specs.List.{Entry, complete, stopped, full, support, instance
 use Rattle.meaning.specs.Walk.{Turn, due, ended, start, steps, stop, walk}
 use Rattle.meaning.proofs.Basics.{split, is_T, mem_in, map_mem, mem_map, get_or_mem, mem_get_or, same→eq, eq→same, map_same, complete≢stopped, complete≢full}
 use Rattle.meaning.proofs.Local.{item_local, bound, relevant_bound}
-use Rattle.meaning.proofs.Jump.{Agree, All_good}
+use Rattle.meaning.proofs.Jump.{Agree, AllGood}
 use Rattle.meaning.proofs.Order.{Before, Known, Rising, Listed}
 use Rattle.meaning.proofs.Walk.{Fine, walk_fine}
 
@@ -156,22 +156,22 @@ module _ (J : Job) where
         | inr e ↦ rw (e, binder) (binder_value b v (le_of_suc-le-suc (rw (e, binder) at h)) r θ (rw (e, binder) at t))
       ]
 
-  abbrev Good_by : Choice → Rows → Type 0
-  Good_by θ s = (i : ℕ) → i < size J.rule → (s i < count_item J (item_at J.rule i)) × T (fits_item J (item_at J.rule i) (s i) θ)
+  abbrev GoodBy : Choice → Rows → Type 0
+  GoodBy θ s = (i : ℕ) → i < size J.rule → (s i < count_item J (item_at J.rule i)) × T (fits_item J (item_at J.rule i) (s i) θ)
 
-  value_is : (θ : Choice) (s : Rows) → Good_by θ s → (v : ℕ) → binder J.rule.body v < size J.rule → value J s v ≡ θ v
+  value_is : (θ : Choice) (s : Rows) → GoodBy θ s → (v : ℕ) → binder J.rule.body v < size J.rule → value J s v ≡ θ v
   unfolding value item_at
   value_is θ s g v h = binder_value J.rule.body v h (s (binder J.rule.body v)) θ (g (binder J.rule.body v) h).1
 
-  fits_good : (θ : Choice) (rs : List ℕ) → Fits θ J.rule.body rs → Good_by θ (row_at rs)
+  fits_good : (θ : Choice) (rs : List ℕ) → Fits θ J.rule.body rs → GoodBy θ (row_at rs)
   unfolding item_at
   fits_good θ rs f = fits_at θ J.rule.body rs f
 
-  good_fits : (rs : List ℕ) → length rs ≡ size J.rule → All_good J (row_at rs) → Fits (value J (row_at rs)) J.rule.body rs
+  good_fits : (rs : List ℕ) → length rs ≡ size J.rule → AllGood J (row_at rs) → Fits (value J (row_at rs)) J.rule.body rs
   unfolding fits count item_at
   good_fits rs e v = at_fits (value J (row_at rs)) J.rule.body rs e v
 
-  good_valid : (s : Rows) → All_good J s → Valid J (value J s)
+  good_valid : (s : Rows) → AllGood J s → Valid J (value J s)
   unfolding fits count item_at
   good_valid s v x at =
       let k = mem_get_or J.rule.body x no_item at in
@@ -179,7 +179,7 @@ module _ (J : Job) where
       subst (Holds J (value J s)) k.2 (fit_holds (get_or J.rule.body k.0 no_item) (s k.0) (value J s) g.0 g.1)
 
   module _ (safe : Safe J.rule) where
-    good_by_good : (θ : Choice) (s : Rows) → Good_by θ s → All_good J s
+    good_by_good : (θ : Choice) (s : Rows) → GoodBy θ s → AllGood J s
     unfolding fits count
     good_by_good θ s g i h = (
       (g i h).0,
@@ -187,7 +187,7 @@ module _ (J : Job) where
           (λ v at. sym (value_is θ s g v (let q = bound J.rule safe i v h (mem_in v (vars (item_at J.rule i)) at) in omega arith)))) (g i h).1,
     )
 
-    good_by_values : (θ : Choice) (s : Rows) → Good_by θ s → values J s ≡ cut J.rule θ
+    good_by_values : (θ : Choice) (s : Rows) → GoodBy θ s → values J s ≡ cut J.rule θ
     unfolding values
     good_by_values θ s g = map_same (value J s) θ (relevant J.rule) (λ v at. value_is θ s g v (relevant_bound J.rule safe v at))
 
@@ -205,7 +205,7 @@ module _ (J : Job) where
     )
 
     -- a list in order, with every instance, is the document's
-    pub listed_listing : (es : List Entry) → Listed J es → ((s : Rows) → All_good J s → Known J es (values J s)) → Listing J (map (instance_of J) es)
+    pub listed_listing : (es : List Entry) → Listed J es → ((s : Rows) → AllGood J s → Known J es (values J s)) → Listing J (map (instance_of J) es)
     listed_listing es l all = record {
       each = λ x at. let w = mem_map (instance_of J) es x at in
           subst (λ (z : Instance). (θ : Choice) × Valid J θ × Supports J θ J.rule.body z.support × (z.values ≡ cut J.rule θ)) (sym w.2) (

@@ -15,9 +15,9 @@ use Rattle.meaning.specs.List.{Entry, complete, Searched, instance_of}
 use Rattle.meaning.specs.Plain.{one_test, list_whole, from_row, try_item, plain_search}
 use Rattle.meaning.proofs.Basics.{is_T, lt_or_le, complete≢stopped, complete≢full}
 use Rattle.meaning.proofs.Local.{values_local, relevant_lt}
-use Rattle.meaning.proofs.Jump.{Agree, agree_suc, Good, Safe_to, Cover}
+use Rattle.meaning.proofs.Jump.{Agree, agree_suc, Good, SafeTo, Cover}
 use Rattle.meaning.proofs.Enlist.{enlisted, known, over, new}
-use Rattle.meaning.proofs.Order.{Known, Listed, listed_none, Past, At_or_past, move_past, listed_known, known_with, known_new, listed_with, past_with, enter_past, leave_past}
+use Rattle.meaning.proofs.Order.{Known, Listed, listed_none, Past, AtOrPast, move_past, listed_known, known_with, known_new, listed_with, past_with, enter_past, leave_past}
 use Rattle.meaning.proofs.Walk.{unfit, move_path, move_cover}
 use Rattle.meaning.proofs.Meaning.{listed_listing}
 use Rattle.meaning.proofs.Engine.{Lawful}
@@ -36,8 +36,8 @@ module _ (J : Job) (safe : Safe J.rule) where
   -- After it: so is all that agrees with them.
   record Leaves (p : ℕ) (rows : List ℕ) (es fs : List Entry) : Type 0 where
     listing : Listed J fs
-    all : Safe_to J (row_at rows) (Known J fs) p
-    past : At_or_past J fs (row_at rows) p
+    all : SafeTo J (row_at rows) (Known J fs) p
+    past : AtOrPast J fs (row_at rows) p
     more : (vs : List ℕ) → Known J es vs → Known J fs vs
 
   module _ (allowance lent : ℕ) where
@@ -61,7 +61,7 @@ module _ (J : Job) (safe : Safe J.rule) where
           })
         ]
       where
-        all : {es : List Entry} → Known J es (values J (row_at rows)) → Safe_to J (row_at rows) (Known J es) (size J.rule)
+        all : {es : List Entry} → Known J es (values J (row_at rows)) → SafeTo J (row_at rows) (Known J es) (size J.rule)
         all {es} k u good agree = subst (Known J es) (values_local J (row_at rows) u (λ i b. sym (agree i (relevant_lt J.rule safe i b)))) k
 
     -- at the item at p, with these rows laid before it
@@ -107,7 +107,7 @@ module _ (J : Job) (safe : Safe J.rule) where
         step : at (suc k) p ≡ suc (at k p)
         step = omega (arith, row_is k, row_is (suc k))
 
-        done_row : Listed J gs → Safe_to J (at k) (Known J gs) (suc p) → At_or_past J gs (at k) (suc p) → ((vs : List ℕ) → Known J fs vs → Known J gs vs) → Done (suc k) es gs
+        done_row : Listed J gs → SafeTo J (at k) (Known J gs) (suc p) → AtOrPast J gs (at k) (suc p) → ((vs : List ℕ) → Known J fs vs → Known J gs vs) → Done (suc k) es gs
         done_row listing all past more = record {
           listing = listing;
           cover = move_cover J safe (at k) (at (suc k)) p (stay k) (Known J gs) (λ s v i h agree l. more _ (D.cover s v i (omega arith) agree l))

@@ -11,7 +11,7 @@ use Rattle.meaning.specs.Rows.{count}
 use Rattle.meaning.specs.List.{Entry, complete, stopped, full, Searched, entry_size}
 use Rattle.meaning.specs.Plain.{sum, plain, plain_count, one_test, list_whole, from_row, try_item, plain_search}
 use Rattle.meaning.proofs.Basics.{complete≢stopped, complete≢full, stopped≢full}
-use Rattle.meaning.proofs.Enlist.{with, No_room, Wide, one_more, full_many, enlisted, known, over, new}
+use Rattle.meaning.proofs.Enlist.{with, NoRoom, Wide, one_more, full_many, enlisted, known, over, new}
 use Rattle.meaning.proofs.Count.{cost, item_cost, cost_fit, cost_fails, cost_some, Made}
 use Rattle.meaning.proofs.Plain.{each_keeps, whole_tried, item_tried_lem, item_wide, rowed, stays, stops, fit, fails}
 
@@ -27,7 +27,7 @@ module _ (J : Job) where
       within : s.tests ≤ allowance
       room : length s.entries * entry_size J.rule ≤ lent
       used : s.ending ≡ stopped → s.tests ≡ allowance
-      none : s.ending ≡ full → No_room J lent s.entries
+      none : s.ending ≡ full → NoRoom J lent s.entries
 
     -- from s to r, by a part of the search to which the plain count gives n tests
     record Tried (n extra : ℕ) (s r : Searched) : Type 0 where
@@ -195,7 +195,7 @@ module _ (J : Job) where
     pub entries_fit : length end.entries * entry_size J.rule ≤ lent
     entries_fit = searched.held.room
 
-    pub full_over : end.ending ≡ full → No_room J lent end.entries
+    pub full_over : end.ending ≡ full → NoRoom J lent end.entries
     full_over = searched.held.none
 
     -- there are at most as many entries as tests, and one more; so with room for that many it is never full

@@ -14,7 +14,7 @@ use lib.Seq.{get_or_at, get_or-set_same, get_or-set_other}
 use lib.Dec.{T, ltb, leb, eqb}
 use borrow.Author.Tests.{ltb-false, leb-false, eqb-true, eqb-false, lt-ltb}
 use Rattle.meaning.specs.Basics.{tab, any, in?}
-use Rattle.meaning.specs.Job.{job_limit, predicate_limit, row_limit, head_limit, item_limit, arity_limit, variable_limit, Term, number, variable, Comparison, negated, comparison, Item, positive, test, Head, Job, rows_of, terms, vars_of, vars, holds, binder, unbound, no_item, Is_test, size, item_at, Takes, Formed, Small, Sound}
+use Rattle.meaning.specs.Job.{job_limit, predicate_limit, row_limit, head_limit, item_limit, arity_limit, variable_limit, Term, number, variable, Comparison, negated, comparison, Item, positive, test, Head, Job, rows_of, terms, vars_of, vars, holds, binder, unbound, no_item, IsTest, size, item_at, Takes, Formed, Small, Sound}
 use Rattle.meaning.specs.Reading.{byte_at, be32, tag_at, length_at, Tag, predicate_tag, row_tag, head_tag, literal_tag, comparison_tag, tag_of, line_of, predicate_at, places_at, term_at, term_places, terms_at, bad_term, out_of_range, row_in, head_in, literal_in, comparison_in, unbound_test, unbound_in, counted, Read, refusals, first, with_item, added, placed, after, nothing, Reading, refused, accepted, unbound_head, finish, read_from, reading}
 use Rattle.meaning.proofs.Basics.{split, is_T, T_is, not_T, or_l, or_r, or_cases, lt_or_le, mem_any, in_mem}
 use Rattle.meaning.proofs.Tab.{or_false, any_append, length_tab}
@@ -132,16 +132,16 @@ all_bound b vs e v t = binder_lt b v (un_not (any (holds v) b) (none_passes (λ 
     un_not false q = absurd (true_false q)
 
 -- the rule's part that refusal 9 keeps
-abbrev Tests_bound : List Item → Type 0
-Tests_bound b = (i v : ℕ) → i < length b → Is_test (get_or b i no_item) → T (in? v (vars (get_or b i no_item))) → binder b v < i
+abbrev TestsBound : List Item → Type 0
+TestsBound b = (i v : ℕ) → i < length b → IsTest (get_or b i no_item) → T (in? v (vars (get_or b i no_item))) → binder b v < i
 
-test_bound : (b : List Item) (x : Item) (v : ℕ) → unbound_test b x ≡ false → Is_test x → T (in? v (vars x)) → binder b v < length b
+test_bound : (b : List Item) (x : Item) (v : ℕ) → unbound_test b x ≡ false → IsTest x → T (in? v (vars x)) → binder b v < length b
 unfolding unbound_test terms
 test_bound b (positive p ts) v e k t = absurd k
 test_bound b (test c ts) v e k t = all_bound b (vars_of ts) e v t
 
-tests_more : (b : List Item) (x : Item) → Tests_bound b → unbound_test b x ≡ false → Tests_bound (b ++ (x ∷ []))
-tests_more b x old e i v h = snoc_at (λ (y : Item). Is_test y → T (in? v (vars y)) → binder (b ++ (x ∷ [])) v < i) b x no_item i
+tests_more : (b : List Item) (x : Item) → TestsBound b → unbound_test b x ≡ false → TestsBound (b ++ (x ∷ []))
+tests_more b x old e i v h = snoc_at (λ (y : Item). IsTest y → T (in? v (vars y)) → binder (b ++ (x ∷ [])) v < i) b x no_item i
     (λ l k t. let q = old i v l k t in omega (arith, binder_append b (x ∷ []) v (omega arith)))
     (λ l k t. let q = test_bound b x v e k t in omega (arith, binder_append b (x ∷ []) v q))
     (λ l k t. absurd (omega (arith, length_snoc b x)))
@@ -158,7 +158,7 @@ record Half (J : Job) : Type 0 where
   head : (h : Head) → Memᴰ h J.rule.heads → Takes J h.predicate h.terms × Small h.terms
   items : length J.rule.body ≤ item_limit
   item : (x : Item) → Memᴰ x J.rule.body → Formed J x × Small (terms x)
-  tests : Tests_bound J.rule.body
+  tests : TestsBound J.rule.body
 
 -- what is known of a field that is not refused, where its predicate has n places
 record Passed (t : Tag) (s : List ℕ) (at n : ℕ) (J : Job) : Type 0 where
@@ -372,9 +372,9 @@ heads_bound b (g ∷ hs) (p ∷ ps) l e h at v t =
 
 -- refusals 10 and 11, and the whole reading
 
-abbrev Sound_reading : Reading → Type 0
-Sound_reading (refused fault place) = Unit {0}
-Sound_reading (accepted J) = Sound J
+abbrev SoundReading : Reading → Type 0
+SoundReading (refused fault place) = Unit {0}
+SoundReading (accepted J) = Sound J
 
 half_sound : (J : Job) → Half J → ((h : Head) → Memᴰ h J.rule.heads → (v : ℕ) → T (in? v (vars_of h.terms)) → binder J.rule.body v < size J.rule)
     → (length J.rule.heads + length J.rule.body ≡ 0 → ⊥) → Sound J
@@ -394,11 +394,11 @@ half_sound J h heads filled = record {
   some = positive_of (length J.rule.heads + length J.rule.body) filled;
 }
 
-finish_sound : (s : List ℕ) (st : Read) → Half st.job → length st.places ≡ length st.job.rule.heads → Sound_reading (finish s st)
+finish_sound : (s : List ℕ) (st : Read) → Half st.job → length st.places ≡ length st.job.rule.heads → SoundReading (finish s st)
 unfolding finish
 finish_sound s st h l = go (unbound_head st.job.rule.body st.job.rule.heads st.places) refl
   where
-    go : (o : Option ℕ) → unbound_head st.job.rule.body st.job.rule.heads st.places ≡ o → Sound_reading (finish s st)
+    go : (o : Option ℕ) → unbound_head st.job.rule.body st.job.rule.heads st.places ≡ o → SoundReading (finish s st)
     go (some place) e = rw (e, finish) tt
     go none e = elim (split (eqb (length st.job.rule.heads + length st.job.rule.body) 0)) [
       | inl f ↦ rw (e, f, finish) tt
@@ -413,7 +413,7 @@ places_after : (s : List ℕ) (at : ℕ) (st : Read) → length st.places ≡ le
 unfolding after
 places_after s at st l = let t = tag_of (tag_at s at) in places_added t s at (places_at t s at st.job.arities) st.job st.places l
 
-read_sound : (k : ℕ) (s : List ℕ) (at : ℕ) (st : Read) → Half st.job → length st.places ≡ length st.job.rule.heads → Sound_reading (read_from k s at st)
+read_sound : (k : ℕ) (s : List ℕ) (at : ℕ) (st : Read) → Half st.job → length st.places ≡ length st.job.rule.heads → SoundReading (read_from k s at st)
 unfolding read_from
 read_sound zero s at st h l = finish_sound s st h l
 read_sound (suc k) s at st h l =
@@ -422,8 +422,8 @@ read_sound (suc k) s at st h l =
       | inr e ↦ rw (e, read_from) (finish_sound s st h l)
     ]
   where
-    go : ((st' : Read) → Half st'.job → length st'.places ≡ length st'.job.rule.heads → Sound_reading (read_from k s (at + 3 + length_at s at) st'))
-        → (o : Option ℕ) → first (refusals s at st) ≡ o → ltb at (length s) ≡ true → Sound_reading (read_from (suc k) s at st)
+    go : ((st' : Read) → Half st'.job → length st'.places ≡ length st'.job.rule.heads → SoundReading (read_from k s (at + 3 + length_at s at) st'))
+        → (o : Option ℕ) → first (refusals s at st) ≡ o → ltb at (length s) ≡ true → SoundReading (read_from (suc k) s at st)
     go rest (some fault) f e = rw (e, f, read_from) tt
     go rest none f e = rw (e, f, read_from) (rest (after s at st) (half_after s at st f h) (places_after s at st l))
 
@@ -443,7 +443,7 @@ half_nothing = record {
   tests = λ i v h. absurd (not-suc-le-zero h);
 }
 
-reading_sound : (s : List ℕ) → Sound_reading (reading s)
+reading_sound : (s : List ℕ) → SoundReading (reading s)
 unfolding reading
 reading_sound s =
     elim (split (ltb job_limit (length s))) [
@@ -452,4 +452,4 @@ reading_sound s =
     ]
 
 pub accepted_sound : (s : List ℕ) (J : Job) → reading s ≡ accepted J → Sound J
-accepted_sound s J e = subst Sound_reading e (reading_sound s)
+accepted_sound s J e = subst SoundReading e (reading_sound s)

@@ -14,17 +14,17 @@ use Rattle.meaning.specs.List.{Entry, full, entry_size, Begins}
 use Rattle.meaning.specs.Plain.{plain_count}
 use Rattle.meaning.specs.Walk.{State, Turn, due, ended, fitted, tested, set_all, whole_choice, whole, enter, make_test, start, steps, stop, walk}
 use Rattle.meaning.proofs.Basics.{split, begins_trans, begins_length}
-use Rattle.meaning.proofs.Enlist.{with, No_room, one_more, full_many, Cut, roomier, same_list, no_longer}
+use Rattle.meaning.proofs.Enlist.{with, NoRoom, one_more, full_many, Cut, roomier, same_list, no_longer}
 use Rattle.meaning.proofs.Count.{tests_made}
-use Rattle.meaning.proofs.Grow.{list_of, made_by, Is_full, stop_list, stop_made, stop_full, test_step, start_step, go_back_kept, steps_begins}
+use Rattle.meaning.proofs.Grow.{list_of, made_by, IsFull, stop_list, stop_made, stop_full, test_step, start_step, go_back_kept, steps_begins}
 
 module _ (J : Job) where
   -- there are at most as many entries as tests, and one more; so with room for that many it is never full
 
   module _ (lent : ℕ) (h : suc (plain_count J) * entry_size J.rule ≤ lent) where
     -- so a walk that is full would have made more tests than the plain count
-    steps_within : (a t : ℕ) (x : Turn) → made_by x ≡ t → length (list_of x) ≤ suc t → (Is_full x → plain_count J < t)
-        → Is_full (steps J lent a x) → plain_count J < made_by (steps J lent a x)
+    steps_within : (a t : ℕ) (x : Turn) → made_by x ≡ t → length (list_of x) ≤ suc t → (IsFull x → plain_count J < t)
+        → IsFull (steps J lent a x) → plain_count J < made_by (steps J lent a x)
     unfolding steps
     steps_within zero t x m l f q = subst (λ (n : ℕ). plain_count J < n) (sym m) (f q)
     steps_within (suc a) t (ended e t' es) m l f q = subst (λ (n : ℕ). plain_count J < n) (sym m) (f q)
@@ -34,7 +34,7 @@ module _ (J : Job) where
         (elim s.list [ inl e ↦ omega (arith, ap length e) | inr r ↦ omega (arith, ap length r.1, length-append st.entries (r.0 ∷ [])) ])
         (λ u. omega (arith, full_many J (plain_count J) lent h st.entries (s.over u))) q
 
-    start_within : (a : ℕ) → Is_full (steps J lent a (start J lent)) → plain_count J < made_by (steps J lent a (start J lent))
+    start_within : (a : ℕ) → IsFull (steps J lent a (start J lent)) → plain_count J < made_by (steps J lent a (start J lent))
     start_within a = let s = start_step J lent in steps_within a 0 (start J lent) s.made
         (elim s.list [ inl e ↦ omega (arith, ap length e) | inr r ↦ omega (arith, ap length r.1) ])
         (λ u. omega (arith, full_many J (plain_count J) lent h [] (s.over u)))
@@ -56,7 +56,7 @@ module _ (J : Job) where
       | no_longer n q r ↦ rw (q, r, whole) (longer n (go_back_kept J whole_choice (size J.rule) next (set_all marks) t (with es t (fitted next))).list)
     ]
       where
-        longer : {y : Turn} → No_room J lent es → list_of y ≡ with es t (fitted next) → Alike lent (ended full t es) y
+        longer : {y : Turn} → NoRoom J lent es → list_of y ≡ with es t (fitted next) → Alike lent (ended full t es) y
         longer n q = fuller (record { tests = t; rows = fitted next } ∷ [], q)
             (subst (λ (l : List Entry). lent < length l * entry_size J.rule) (sym q) (omega (arith, one_more J es (record { tests = t; rows = fitted next }))))
 

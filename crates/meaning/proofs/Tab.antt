@@ -90,8 +90,8 @@ module _ {A : Type 0} (g : A → Bool) (f : ℕ → A) where
   pub any_hit : (n i : ℕ) → i < n → g (f i) ≡ true → any g (tab n f) ≡ true
   any_hit n i h q = search_hit (any g) any_nil (any_append g) f n i h (any_one (f i) ∙ q)
 
-pub get_d_past : {A : Type 0} (f : ℕ → A) (n i : ℕ) (d : A) → n ≤ i → get_or (tab n f) i d ≡ d
-get_d_past f n i d h = get_or-eq_default (tab n f) d (omega (arith, length_tab f n))
+pub get_or_past : {A : Type 0} (f : ℕ → A) (n i : ℕ) (d : A) → n ≤ i → get_or (tab n f) i d ≡ d
+get_or_past f n i d h = get_or-eq_default (tab n f) d (omega (arith, length_tab f n))
 
 -- numbers in a row
 

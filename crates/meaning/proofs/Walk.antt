@@ -19,9 +19,9 @@ use Rattle.meaning.specs.Walk.{State, Turn, due, ended, next_at, mark_at, fitted
 use Rattle.meaning.proofs.Basics.{split, is_T, not_T, lt_or_le}
 use Rattle.meaning.proofs.Group.{group_self}
 use Rattle.meaning.proofs.Local.{binds_le}
-use Rattle.meaning.proofs.Jump.{Agree, agree_suc, Good, All_good, Group_good, good_local, Cover, Fail_at, Nested, Reason, Landed, reason_whole, reason_nothing, reason_out, back_sound}
+use Rattle.meaning.proofs.Jump.{Agree, agree_suc, Good, AllGood, GroupGood, good_local, Cover, FailAt, Nested, Reason, Landed, reason_whole, reason_nothing, reason_out, back_sound}
 use Rattle.meaning.proofs.Enlist.{enlisted, known, over, new, with}
-use Rattle.meaning.proofs.Order.{Known, Listed, listed_none, Past, At_or_past, move_past, listed_known, known_with, known_new, listed_with, past_with, enter_past, leave_past}
+use Rattle.meaning.proofs.Order.{Known, Listed, listed_none, Past, AtOrPast, move_past, listed_known, known_with, known_new, listed_with, past_with, enter_past, leave_past}
 
 -- next rows
 
@@ -78,14 +78,14 @@ module _ (J : Job) (safe : Safe J.rule) where
     pub nested : Nested st.marks
     pub path : (i : ℕ) → i < st.position → Good J (reached st) i
     pub cover : Cover J (reached st) (Known J st.entries) (suc st.position)
-    pub fail : (i : ℕ) → i < suc st.position → Fail_at J (reached st) st.marks i
+    pub fail : (i : ℕ) → i < suc st.position → FailAt J (reached st) st.marks i
     pub new : T st.entered → (s : Rows) → Agree s (reached st) st.position → s st.position < reached st st.position → Good J s st.position → ⊥
     pub listing : Listed J st.entries
     pub past : Past J st.entries (reached st) (suc st.position)
 
   abbrev pub Fine : Turn → Type 0
   Fine (due st) = Ready st × (next_at st.next st.position < count J st.position)
-  Fine (ended complete t es) = Listed J es × ((s : Rows) → All_good J s → Known J es (values J s))
+  Fine (ended complete t es) = Listed J es × ((s : Rows) → AllGood J s → Known J es (values J s))
   Fine (ended stopped t es) = Listed J es
   Fine (ended full t es) = Listed J es
 
@@ -101,7 +101,7 @@ module _ (J : Job) (safe : Safe J.rule) where
     pub move_path : t ≤ size J.rule → ((i : ℕ) → i < t → Good J a i) → (i : ℕ) → i < t → Good J b i
     move_path small path i l = good_local J i a b (sym (stay i l)) (λ k n. sym (stay k (let q = binds_le J.rule safe i k (omega arith) n in omega arith))) (path i l)
 
-    pub move_cover : (K : List ℕ → Type 0) → Cover J a K t → ((s : Rows) → All_good J s → Agree s a t → s t < b t → K (values J s)) → Cover J b K (suc t)
+    pub move_cover : (K : List ℕ → Type 0) → Cover J a K t → ((s : Rows) → AllGood J s → Agree s a t → s t < b t → K (values J s)) → Cover J b K (suc t)
     move_cover K cover here s v i l agree h =
         elim (lt_or_le i t) [
           | inl z ↦ cover s v i z (agree_back s i (omega arith) agree) (subst (λ (x : ℕ). s i < x) (stay i z) h)
@@ -109,13 +109,13 @@ module _ (J : Job) (safe : Safe J.rule) where
               here s v (agree_back s t (omega arith) (subst (λ (x : ℕ). Agree s b x) e agree)) (subst (λ (x : ℕ). s x < b x) e h)
         ]
 
-    move_fail : (marks marks' : List Bool) → ((i : ℕ) → i < t → mark_at marks' i ≡ false → mark_at marks i ≡ false) → ((i : ℕ) → i < t → Fail_at J a marks i)
-        → (mark_at marks' t ≡ false → (s : Rows) → Agree s a t → s t < b t → Group_good J t s → ⊥) → (i : ℕ) → i < suc t → Fail_at J b marks' i
+    move_fail : (marks marks' : List Bool) → ((i : ℕ) → i < t → mark_at marks' i ≡ false → mark_at marks i ≡ false) → ((i : ℕ) → i < t → FailAt J a marks i)
+        → (mark_at marks' t ≡ false → (s : Rows) → Agree s a t → s t < b t → GroupGood J t s → ⊥) → (i : ℕ) → i < suc t → FailAt J b marks' i
     move_fail marks marks' clear fail here i l k s agree h g =
         elim (lt_or_le i t) [
           | inl z ↦ fail i z (clear i z k) s (agree_back s i (omega arith) agree) (subst (λ (x : ℕ). s i < x) (stay i z) h) g
           | inr z ↦ let e : i ≡ t = omega arith in
-              here (subst (λ (x : ℕ). mark_at marks' x ≡ false) e k) s (agree_back s t (omega arith) (subst (λ (x : ℕ). Agree s b x) e agree)) (subst (λ (x : ℕ). s x < b x) e h) (subst (λ (x : ℕ). Group_good J x s) e g)
+              here (subst (λ (x : ℕ). mark_at marks' x ≡ false) e k) s (agree_back s t (omega arith) (subst (λ (x : ℕ). Agree s b x) e agree)) (subst (λ (x : ℕ). s x < b x) e h) (subst (λ (x : ℕ). GroupGood J x s) e g)
         ]
 
   -- what is known behind position p, where the rows that fitted are those of a
@@ -127,11 +127,11 @@ module _ (J : Job) (safe : Safe J.rule) where
     nested : Nested marks
     path : (i : ℕ) → i < p → Good J a i
     cover : Cover J a (Known J es) p
-    fail : (i : ℕ) → i < p → Fail_at J a marks i
+    fail : (i : ℕ) → i < p → FailAt J a marks i
     listing : Listed J es
 
   -- going back from there
-  module _ (a : Rows) (p : ℕ) (next : List ℕ) (marks : List Bool) (tests : ℕ) (es : List Entry) (B : Behind a p next marks es) (past : At_or_past J es a p) where
+  module _ (a : Rows) (p : ℕ) (next : List ℕ) (marks : List Bool) (tests : ℕ) (es : List Entry) (B : Behind a p next marks es) (past : AtOrPast J es a p) where
     arrive : (t : ℕ) → Landed J a marks (Known J es) next p (some t)
         → Fine (due (record { position = t; next = take (suc t) next; marks = take (suc t) marks; entered = false; tests = tests; entries = es }))
     arrive t l = (
@@ -231,7 +231,7 @@ module _ (J : Job) (safe : Safe J.rule) where
         all : (i : ℕ) → i < size J.rule → T (mark_at (set_all marks) i)
         all i h = set_mark marks i (omega (arith, B.wide))
 
-        back_from : (fs : List Entry) → Cover J a (Known J fs) (size J.rule) → Listed J fs → At_or_past J fs a (size J.rule) → Known J fs (values J a)
+        back_from : (fs : List Entry) → Cover J a (Known J fs) (size J.rule) → Listed J fs → AtOrPast J fs a (size J.rule) → Known J fs (values J a)
             → Fine (go_back J whole_choice (size J.rule) next (set_all marks) tests fs)
         back_from fs c l q k = go_back_fine a (size J.rule) next (set_all marks) tests fs
             (record {

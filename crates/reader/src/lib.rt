@@ -1,15 +1,17 @@
 // A reader holds the job's bytes and the offset where a field should start. Its functions take it apart and call a covered function.
+#![tactic(auto)]
+
 ghost use Rattle.std.specs.Prelude.{◌≡◌};
 ghost use Rattle.reader.specs.Frame.{frame_at};
 
-#[derive(Drop)]
+#[derive(Clone, Copy)]
 pub struct Reader<'a> {
     pub bytes: &'a [u8],
     pub at: usize,
 }
 
 // What stands where a field should start: a tag, a length and that many bytes, or fewer.
-#[derive(Drop)]
+#[derive(Clone, Copy)]
 pub enum Frame {
     Cut,
     Field(usize, usize),

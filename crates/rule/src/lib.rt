@@ -1,4 +1,6 @@
 // The rule as the code holds it; how it stands for a rule of the meaning is in specs/. The limits of document 01 have their names here.
+#![tactic(auto)]
+
 ghost use Rattle.std.specs.Prelude.{◌≡◌, min};
 
 pub mod compare;
@@ -32,14 +34,14 @@ pub const LESS_THAN: u8 = 2;
 pub const BEFORE: u8 = 3;
 
 // A number, or a variable by its number.
-#[derive(Drop)]
+#[derive(Clone, Copy)]
 pub struct Term {
     pub variable: bool,
     pub value: u32,
 }
 
 // The first `arity` terms count. A comparison names no predicate.
-#[derive(Drop)]
+#[derive(Clone, Copy)]
 pub struct Item {
     pub kind: u8,
     pub predicate: usize,
@@ -48,7 +50,7 @@ pub struct Item {
 }
 
 // The first `size` items are the body, the first `many` heads the heads; of the first `predicates` predicates, whether each is solved.
-#[derive(Drop)]
+#[derive(Clone, Copy)]
 pub struct Rule {
     pub items: [Item; ITEM_LIMIT],
     pub size: usize,
