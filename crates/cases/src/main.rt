@@ -2,14 +2,17 @@
 // length, the engine: 0 for the walk, 1 for the plain one) and then the job's bytes.
 #![tactic(auto)]
 
-
 mod cells;
 mod record;
 
 use crate::cells::{fill, weigh};
 use crate::record::{Head, Record, read_head};
-use libc::STDOUT_FILENO;
+use input::{read_full, tell_failed};
 use rule::{JOB_LIMIT, at_most};
+use std::fs::File;
+use std::io;
+use std::io::{Read, Write};
+use std::rt::{Env, Files};
 
 // The cells of the longest list that is lent.
 const LIST_ROOM: usize = 4096;
@@ -17,56 +20,83 @@ const LIST_ROOM: usize = 4096;
 // The bytes of the longest job of the file: one more than a job may have.
 const JOB_ROOM: usize = JOB_LIMIT + 1;
 
+// Room for every text: 4,096 cells of at most 10 digits and the byte after each, and two lines more.
+const TEXT_ROOM: usize = 65536;
+
+// The bytes of the longest path of a packed file.
+const PATH_ROOM: usize = 4096;
+
 // A job's lines, and the weight of the lent cells after the run.
-fn run(plain: bool, job: &[u8], allowance: u32, list: &mut [u32]) {
+fn run(
+    rt: &impl Print,
+    plain: bool,
+    job: &[u8],
+    allowance: u32,
+    list: &mut [u32],
+) -> io::Result<()> {
     fill(list);
     let shape = ground::shape_of(job);
     let answer = ground::ground_by(plain, job, allowance, list);
-    let mut text = io::large_buffer();
+    let mut text = [0u8; TEXT_ROOM];
     let written = lines::write_lines(answer, shape, &list[..], &mut text);
-    io::write_all(STDOUT_FILENO, &text[..written]);
-    io::write_all(STDOUT_FILENO, b"cells ");
-    io::print_decimal(STDOUT_FILENO, weigh(&list[..]) as u64);
-    io::write_all(STDOUT_FILENO, b"\n");
+    io::writer(rt).write_all(&text[..written])?;
+    let weight = weigh(&list[..]);
+    println!(rt; "cells {weight}")
 }
 
 // Reads a record's job into a part of the one slice and lends a part of the other for its list.
-fn run_record(head: Head, fd: i32, job: &mut [u8], list: &mut [u32]) {
+fn run_record<R: Read>(
+    rt: &impl Print,
+    head: Head,
+    file: &mut R,
+    job: &mut [u8],
+    list: &mut [u32],
+) -> io::Result<()> {
     let length = at_most(head.length, job.len());
-    let got = io::read_full(fd, &mut job[..length]);
+    let got = read_full(file, &mut job[..length])?;
     let many = at_most(head.cells, list.len());
-    run(head.plain, &job[..got], head.allowance, &mut list[..many]);
+    run(
+        rt,
+        head.plain,
+        &job[..got],
+        head.allowance,
+        &mut list[..many],
+    )
 }
 
 // Runs the next record's job under its number. Answers whether there was one.
-fn run_next(fd: i32, number: u64) -> bool {
-    let Record::Head(head) = read_head(fd) else {
-        return false;
+fn run_next<R: Read>(rt: &impl Print, file: &mut R, number: u64) -> io::Result<bool> {
+    let Record::Head(head) = read_head(file)? else {
+        return Ok(false);
     };
-    io::write_all(STDOUT_FILENO, b"# ");
-    io::print_decimal(STDOUT_FILENO, number);
-    io::write_all(STDOUT_FILENO, b"\n");
+    println!(rt; "# {number}")?;
     let mut job = [0u8; JOB_ROOM];
     let mut list = [0u32; LIST_ROOM];
-    run_record(head, fd, &mut job, &mut list);
-    true
+    run_record(rt, head, file, &mut job, &mut list)?;
+    Ok(true)
 }
 
-fn run_all(fd: i32) {
-    let mut number = 0u64;
-    while number < u64::MAX && run_next(fd, number) {
-        number += 1;
+fn run_all<R: Read>(rt: &impl Print, file: &mut R) -> io::Result<()> {
+    for number in 0..u64::MAX {
+        if !run_next(rt, file, number)? {
+            break;
+        }
+    }
+    Ok(())
+}
+
+fn run_file<R: Files + Print + Eprint + Alloc>(rt: &R, path: &str) -> io::Result<()> {
+    match File::open(rt, path) {
+        Ok(mut file) => run_all(rt, &mut file),
+        Err(error) => tell_failed(rt, path, error),
     }
 }
 
-fn main() {
-    let mut path = io::buffer();
-    let length = os::arg(1, &mut path);
-    let fd = os::open_read(&path[..length]);
-    if fd < 0 {
-        os::fail(&path[..length]);
-        return;
+fn main(rt: HostRuntime) -> io::Result<()> {
+    let mut path = [0u8; PATH_ROOM];
+    let length = rt.arg(1, &mut path).unwrap_or(0);
+    match str::from_utf8(&path[..length]) {
+        Ok(path) => run_file(&rt, path),
+        Err(_) => Err(io::Error::from(io::ErrorKind::InvalidFilename)),
     }
-    run_all(fd);
-    libc::close(fd);
 }

@@ -1,60 +1,63 @@
 // Reads each file that an argument names as a job, and writes whether it is accepted, or the refusal's number and place.
 #![tactic(auto)]
 
+use input::{read_full, tell_failed};
 use job::fault::Verdict;
-use libc::STDOUT_FILENO;
+use job::reading::read_job;
 use rule::{CELL_LIMIT, INDEX_LIMIT};
+use std::env::FillError;
+use std::fs::File;
+use std::io;
+use std::rt::{Env, Files};
 
-fn say(verdict: Verdict) {
+// The bytes of the longest path that is looked at, and of the longest file.
+const PATH_ROOM: usize = 4096;
+const FILE_ROOM: usize = 65536;
+
+fn say(rt: &impl Print, verdict: Verdict) -> io::Result<()> {
     match verdict {
-        Verdict::Accepted => {
-            io::write_all(STDOUT_FILENO, b"accepted\n");
-        }
+        Verdict::Accepted => println!(rt; "accepted"),
         Verdict::Refused(fault, place) => {
-            io::write_all(STDOUT_FILENO, b"refused ");
-            io::print_decimal(STDOUT_FILENO, job::fault::number(fault) as u64);
-            io::write_all(STDOUT_FILENO, b" ");
-            io::print_decimal(STDOUT_FILENO, place as u64);
-            io::write_all(STDOUT_FILENO, b"\n");
+            let number = job::fault::number(fault);
+            println!(rt; "refused {number} {place}")
         }
     }
 }
 
-fn judge(bytes: &[u8]) {
+fn judge(rt: &impl Print, bytes: &[u8]) -> io::Result<()> {
     let mut cells = [0u32; CELL_LIMIT];
     let mut index = [0u16; INDEX_LIMIT];
-    let answer = job::reading::read_job(bytes, &mut cells, &mut index);
+    let answer = read_job(bytes, &mut cells, &mut index);
     let verdict = answer.verdict;
-    say(verdict);
+    say(rt, verdict)
 }
 
-fn judge_file(path: &[u8]) {
-    let fd = os::open_read(path);
-    if fd < 0 {
-        os::fail(path);
-        return;
+fn judge_file<R: Files + Print + Eprint + Alloc>(rt: &R, path: &str) -> io::Result<()> {
+    match File::open(rt, path) {
+        Ok(mut file) => {
+            let mut space = [0u8; FILE_ROOM];
+            let n = read_full(&mut file, &mut space)?;
+            judge(rt, &space[..n])
+        }
+        Err(error) => tell_failed(rt, path, error),
     }
-    let mut space = io::large_buffer();
-    let n = io::read_full(fd, &mut space);
-    libc::close(fd);
-    judge(&space[..n]);
 }
 
-fn judge_argument(i: usize) {
-    let mut path = io::buffer();
-    let length = os::arg(i, &mut path);
-    if os::errno() != 0 {
-        os::fail(b"argument");
-        return;
+fn judge_argument<R: Files + Print + Eprint + Alloc>(rt: &R, path: &[u8]) -> io::Result<()> {
+    match str::from_utf8(path) {
+        Ok(path) => judge_file(rt, path),
+        Err(_) => Err(io::Error::from(io::ErrorKind::InvalidFilename)),
     }
-    judge_file(&path[..length]);
 }
 
-fn main() {
-    let n = os::arg_count();
-    let mut i = 1usize;
-    while i < n {
-        judge_argument(i);
-        i += 1;
+fn main(rt: HostRuntime) -> io::Result<()> {
+    let mut path = [0u8; PATH_ROOM];
+    for i in 1..usize::MAX {
+        match rt.arg(i, &mut path) {
+            Ok(n) => judge_argument(&rt, &path[..n])?,
+            Err(FillError::TooLong) => eprintln!(rt; "argument: File name too long")?,
+            Err(FillError::NotPresent) => break,
+        }
     }
+    Ok(())
 }

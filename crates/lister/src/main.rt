@@ -6,8 +6,12 @@ ghost use Rattle.std.specs.Prelude.{◌≡◌};
 ghost use Rattle.meaning.specs.Basics.{same};
 ghost use Rattle.lister.specs.Word.{plain_word};
 
-use libc::{STDERR_FILENO, STDIN_FILENO, STDOUT_FILENO};
+use input::read_full;
 use rule::JOB_LIMIT;
+use std::env::FillError;
+use std::io;
+use std::io::Write;
+use std::rt::Env;
 
 const ALLOWANCE: u32 = 1000000;
 
@@ -15,6 +19,12 @@ const CELLS: usize = 4096;
 
 // One byte more than a job may have, so that a longer one is seen to be longer.
 const JOB_ROOM: usize = JOB_LIMIT + 1;
+
+// Room for every text: 4,096 cells of at most 10 digits and the byte after each, and two lines more.
+const TEXT_ROOM: usize = 65536;
+
+// The bytes of the longest word that is looked at.
+const WORD_ROOM: usize = 4096;
 
 // Whether the word is `--plain`.
 fn is_plain(word: &[u8]) -> bool
@@ -35,28 +45,22 @@ fn is_plain(word: &[u8]) -> bool
 }
 
 // The list of the job on standard input, by the plain engine or by the walk.
-fn list(plain: bool) {
+fn list(rt: &(impl Input + Print), plain: bool) -> io::Result<()> {
     let mut job = [0u8; JOB_ROOM];
-    let length = io::read_full(STDIN_FILENO, &mut job);
+    let length = read_full(&mut rt.reader(), &mut job)?;
     let shape = ground::shape_of(&job[..length]);
     let mut list = [0u32; CELLS];
     let answer = ground::ground_by(plain, &job[..length], ALLOWANCE, &mut list);
-    // 65,536 bytes, room for every text: 4,096 cells of at most 10 digits and the byte after each, and two lines more.
-    let mut text = io::large_buffer();
+    let mut text = [0u8; TEXT_ROOM];
     let written = lines::write_lines(answer, shape, &list, &mut text);
-    io::write_all(STDOUT_FILENO, &text[..written]);
+    io::writer(rt).write_all(&text[..written])
 }
 
-fn main() {
-    if os::arg_count() < 2 {
-        list(false);
-        return;
+fn main(rt: HostRuntime) -> io::Result<()> {
+    let mut word = [0u8; WORD_ROOM];
+    match rt.arg(1, &mut word) {
+        Ok(length) if is_plain(&word[..length]) => list(&rt, true),
+        Err(FillError::NotPresent) => list(&rt, false),
+        _ => eprintln!(rt; "usage: lister [--plain] <JOB"),
     }
-    let mut word = io::buffer();
-    let length = os::arg(1, &mut word);
-    if is_plain(&word[..length]) {
-        list(true);
-        return;
-    }
-    io::write_all(STDERR_FILENO, b"usage: lister [--plain] <JOB\n");
 }

@@ -1,3 +1,2 @@
 // What a job means stands in specs/, and the theorem over it in proofs/: this crate has no code.
 #![tactic(auto)]
-

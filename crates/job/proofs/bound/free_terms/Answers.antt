@@ -1,4 +1,4 @@
-use Rattle.std.proofs.Common.{◌∙◌, arith, false, sym}
+use Rattle.std.proofs.Common.{◌∙◌, arith, sym}
 use Rattle.meaning.specs.Job.{arity_limit}
 use native.Mathlib.Nat.{min-le_right}
 use Rattle.job.proofs.Bounds.{free_none, free_more, free_hit, free_all}

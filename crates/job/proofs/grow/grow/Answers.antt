@@ -2,8 +2,6 @@ use Rattle.std.proofs.Common.{◌∙◌, arith, rules, sym}
 use Rattle.job.proofs.Tags.{tag_1, tag_3, tag_4, tag_rest}
 use Rattle.job.proofs.Growing.{Sizes}
 use Rattle.job.proofs.Sounds.{tag_at_lem, group_is, ready_1, ready_3, ready_4, ready_rest, step_1, step_3, step_4, step_rest}
-use Rattle.job.specs.Progress.{Well}
-use Rattle.job.specs.declared.progress.Progress.{Progress}
 use Rattle.job.proofs.grow.grow.Goals as goal
 
 pub grow_predicate-requires : goal.grow_predicate-requires

@@ -1,7 +1,7 @@
 use Rattle.std.proofs.Common.{◌≡◌, ◌+◌, ◌<◌, ◌≤◌, ◌∙◌, ℕ, List, length, refl, arith}
 use lib.ListN.{length-replicate}
 use Rattle.meaning.specs.Job.{job_limit}
-use Rattle.meaning.specs.Reading.{length_at, row_tag, tag_at, tag_of}
+use Rattle.meaning.specs.Reading.{length_at, row_tag, tag_at}
 use Rattle.rule.specs.Limits.{cell_limit, index_limit}
 use Rattle.job.specs.Progress.{Well, Filled, read_of}
 use Rattle.job.specs.Fault.{Judges}
@@ -12,7 +12,7 @@ use Rattle.job.specs.declared.fault.Judged.TheVariants.{Fine}
 use Rattle.job.proofs.Tags.{tag_2}
 use Rattle.job.proofs.Sounds.{sound, tag_at_lem, group_is, ready_2, step_2, row_small}
 use Rattle.job.proofs.Stores.{Storing, stores_first, stores_long, stores_on, stores_stop, stores_end, holds}
-use Rattle.job.proofs.Ends.{Going, too_long, starts, refuses, continues, is_fine, accepts, not_accepted, kept}
+use Rattle.job.proofs.Ends.{Going, too_long, starts, refuses, continues, is_fine, accepts, kept}
 use Rattle.job.proofs.reading.read_job.Goals as goal
 
 -- a field that is judged fine
@@ -83,12 +83,12 @@ loop-at-preserved-then-byte-eq-ROW c =
     let q = c.byte-predicate.ensures.0 in
     on _ _ _ _ c.loop-at-test.true c.loop-at.invariant.1 c.loop-at.invariant.2 c.in_default.is c.judge.ensures _ _ _ _ _ _ c.loop-at.invariant.4 c.loop-at.invariant.5
     (step_2 _ _ _ (ready _ _ _ _ c.loop-at-test.true c.loop-at.invariant.1 c.loop-at.invariant.2 c.in_default.is c.judge.ensures) _ _ _ _ c.loop-at.invariant.3 _ _
-        (tag_at_lem c.args.bytes.now c.loop-at.at _ _ c.byte.ensures.0 (tag_2 _ c.if-byte-eq-ROW.true)) (group_is _ 2 row_tag c.line_of.ensures refl)
-        (record {
-          record_is = rw q refl;
-          cells_are = rw (← q) c.store_row.ensures.cells_after;
-          index_is = rw (← q) c.store_row.ensures.index_after;
-        }))
+    (tag_at_lem c.args.bytes.now c.loop-at.at _ _ c.byte.ensures.0 (tag_2 _ c.if-byte-eq-ROW.true)) (group_is _ 2 row_tag c.line_of.ensures refl)
+    (record {
+      record_is = rw q refl;
+      cells_are = rw (← q) c.store_row.ensures.cells_after;
+      index_is = rw (← q) c.store_row.ensures.index_after;
+    }))
     c.two.ensures.0
 
 pub loop-at-preserved : goal.loop-at-preserved

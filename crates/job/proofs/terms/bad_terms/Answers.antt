@@ -1,5 +1,4 @@
-use Rattle.std.proofs.Common.{◌∙◌, arith, false, sym}
-use Rattle.meaning.specs.Reading.{bad_term}
+use Rattle.std.proofs.Common.{◌∙◌, arith, sym}
 use Rattle.meaning.proofs.Tab.{any_none, any_more, any_hit}
 use Rattle.job.proofs.terms.bad_terms.Goals as goal
 

@@ -1,0 +1,55 @@
+// Bytes read into a lent buffer, and what failed told on standard error: for the programs.
+#![tactic(auto)]
+
+ghost use Rattle.std.specs.Prelude.{◌≤◌, ◌<◌, IfOk, length, take};
+ghost use Rattle.std.specs.Io.KnownBytes.{Consumes, IsAtEnd};
+
+use std::io;
+use std::io::Read;
+
+// Reads until the buffer is full or the input ends: the bytes stand at its start.
+pub fn read_full<R: Read>(reader: &mut R, buffer: &mut [u8]) -> io::Result<usize>
+    ensures within { IfOk result (λ n. n ≤ length buffer.new) }
+    ensures bytes { IfOk result (λ n. Consumes (R.remaining reader.old) (R.remaining reader.new) (take n buffer.new)) }
+    ensures whole { IfOk result (λ n. n < length buffer.new → IsAtEnd (R.remaining reader.new)) }
+{
+    let mut filled = 0;
+    while filled < buffer.len() {
+        let n = reader.read(&mut buffer[filled..])?;
+        if n == 0 {
+            return Ok(filled);
+        }
+        filled += n;
+    }
+    Ok(filled)
+}
+
+// The words of an error, without the number after them.
+fn without_number(told: &str) -> &str {
+    match told.split_once(" (os error ") {
+        Some((words, _)) => words,
+        None => told,
+    }
+}
+
+// What failed, a colon and the system's words.
+pub fn tell_failed<R: Eprint + Alloc>(rt: &R, what: &str, error: io::Error) -> io::Result<()> {
+    let told = format!(in rt.alloc(); "{error}")?;
+    let words = without_number(told.as_str());
+    eprintln!(rt; "{what}: {words}")
+}
+
+#[test]
+fn a_short_input_is_read_to_its_end(rt: HostRuntime) {
+    let mut reader: &[u8] = b"night";
+    let mut buffer = [0u8; 8];
+    let read = read_full(&mut reader, &mut buffer);
+    assert!(rt; matches!(read, Ok(5)));
+    assert!(rt; buffer == *b"night\0\0\0");
+}
+
+#[test]
+fn a_failed_open_is_told(rt: HostRuntime) {
+    let told = tell_failed(&rt, "no job", io::Error::from(io::ErrorKind::NotFound));
+    assert!(rt; told.is_ok());
+}
