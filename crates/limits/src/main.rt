@@ -12,6 +12,7 @@ use std::rt::{Env, Files};
 
 // The bytes of the longest path that is looked at, and of the longest file.
 const PATH_ROOM: usize = 4096;
+
 const FILE_ROOM: usize = 65536;
 
 fn say(rt: &impl Print, verdict: Verdict) -> io::Result<()> {

@@ -9,5 +9,5 @@ pub returns-then-word-i : goal.returns-then-word-i
 returns-then-word-i c = other_byte c.args.word.now c.loop-i.i c.if-word-i.true
 
 pub returns : goal.returns
-returns c =     let l = c.loop-i in
+returns c = let l = c.loop-i in
     same_bytes c.args.word.now c.if-word-ne7.false (λ i h. l.invariant.1 i (omega (arith, c.loop-i-test.false, c.if-word-ne7.false)))

@@ -7,7 +7,7 @@ pub loop-i-init : goal.loop-i-init
 loop-i-init c = let list = c.args.list.now in (search rules, none_later list, none_weigh list)
 
 pub loop-i-preserved : goal.loop-i-preserved
-loop-i-preserved c =     let l = c.loop-i in
+loop-i-preserved c = let l = c.loop-i in
     let s = c.args in
     let some = c.loop-i-test.true in
     let later = later_more s.list.now l.i some l.invariant.0 _ _ l.invariant.1 c.wrapping_add_u32-later.ensures.value in
@@ -15,6 +15,6 @@ loop-i-preserved c =     let l = c.loop-i in
 
 pub returns : goal.returns
 unfolding weight
-returns c =     let l = c.loop-i in
+returns c = let l = c.loop-i in
     let e : l.i ≡ 0 = omega arith in
     l.invariant.2 ∙ ap (λ (i : ℕ). weight_from 0 (drop i c.args.list.now) % 2 ^ 32) e
