@@ -1,4 +1,4 @@
-// The walk of document 01 in C, and what it is measured against: the proved one, as `rt staticlib exported` writes it.
+// The walk of document 01 in C, and what it is measured against: the proved one, as `rt lib` in crates/exported writes it.
 #include <stdint.h>
 
 // How a grounding ended. A refusal has its number in `entries` and its place in `tests`.

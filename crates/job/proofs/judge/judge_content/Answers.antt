@@ -9,7 +9,7 @@ pub returns-then-range : goal.returns-then-range
 returns-then-range c = content_range _ _ _ _ _ c.requires.0 _ c.requires.5 (c.if-length-exact.false ∙ c.exact.ensures) (sym c.out_of_range-range.ensures ∙ c.if-range.true)
 
 pub returns-then-unbound : goal.returns-then-unbound
-returns-then-unbound c = content_unbound _ _ _ _ _ c.requires.0 _ c.requires.5 (c.if-length-exact.false ∙ c.exact.ensures) (sym c.out_of_range-range.ensures ∙ c.if-range.false)
+returns-then-unbound c = content_unbound _ _ _ _ _ c.requires.0 _ c.requires.5 (c.if-length-exact.false ∙ c.exact.ensures) (cc)
     (sym (c.unbound_in-unbound.ensures _ c.requires.3.bound) ∙ c.if-unbound.true)
 
 pub returns : goal.returns
