@@ -97,6 +97,10 @@ fn main(rt: HostRuntime) -> io::Result<()> {
     let length = rt.arg(1, &mut path).unwrap_or(0);
     match str::from_utf8(&path[..length]) {
         Ok(path) => run_file(&rt, path),
-        Err(_) => Err(io::Error::from(io::ErrorKind::InvalidFilename)),
+        Err(_) => tell_failed(
+            &rt,
+            "argument",
+            io::Error::from(io::ErrorKind::InvalidFilename),
+        ),
     }
 }

@@ -47,7 +47,11 @@ fn judge_file<R: Files + Print + Eprint + Alloc>(rt: &R, path: &str) -> io::Resu
 fn judge_argument<R: Files + Print + Eprint + Alloc>(rt: &R, path: &[u8]) -> io::Result<()> {
     match str::from_utf8(path) {
         Ok(path) => judge_file(rt, path),
-        Err(_) => Err(io::Error::from(io::ErrorKind::InvalidFilename)),
+        Err(_) => tell_failed(
+            rt,
+            "argument",
+            io::Error::from(io::ErrorKind::InvalidFilename),
+        ),
     }
 }
 
