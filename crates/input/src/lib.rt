@@ -53,3 +53,32 @@ fn a_failed_open_is_told(rt: HostRuntime) {
     let told = tell_failed(&rt, "no job", io::Error::from(io::ErrorKind::NotFound));
     assert!(rt; told.is_ok());
 }
+
+// Gives one byte at a time, and fails at the third read.
+#[derive(Drop)]
+struct Failing {
+    reads: u8,
+}
+
+impl Read for Failing {
+    fn read(&mut self, buf: &mut [u8]) -> io::Result<usize> {
+        if self.reads >= 2 || buf.is_empty() {
+            return Err(io::Error::from(io::ErrorKind::BrokenPipe));
+        }
+        self.reads += 1;
+        buf[0] = b'n';
+        Ok(1)
+    }
+}
+
+#[test]
+fn a_failed_read_is_the_answer(rt: HostRuntime) {
+    let mut reader = Failing { reads: 0 };
+    let mut buffer = [0u8; 8];
+    let read = read_full(&mut reader, &mut buffer);
+    let failed = match read {
+        Ok(_) => false,
+        Err(error) => error.kind() == io::ErrorKind::BrokenPipe,
+    };
+    assert!(rt; failed);
+}

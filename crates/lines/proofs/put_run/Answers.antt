@@ -4,8 +4,7 @@ use Rattle.lines.proofs.put_run.Goals as goal
 
 pub returns : goal.returns
 returns c =
-    let relevant_length : length c.args.shape.relevant ≡ 16 =
-    search rules in
+    let relevant_length : length c.args.shape.relevant ≡ 16 = search rules in
     let s = c.args in
     let most = c.at_most-relevants in
     put_run s.ending.now (take s.shape.relevants s.shape.relevant) s.list.now _ _ _

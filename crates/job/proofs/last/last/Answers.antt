@@ -1,15 +1,6 @@
-use Rattle.std.proofs.Common.{◌∙◌, ◌≡◌, arith, get_or, refl, sym, ℕ}
-use mathlib.Core.Option.{none}
-use Rattle.rule.specs.Rule.{body_of, head_at}
+use Rattle.std.proofs.Common.{◌∙◌, arith, refl, sym}
 use Rattle.job.proofs.Ends.{heads_none, last_unsafe, last_more, last_empty, last_fine}
-use Rattle.meaning.specs.Basics.{tab}
-use Rattle.meaning.specs.Reading.{unbound_head}
-use Rattle.job.specs.declared.progress.Progress.{Progress}
 use Rattle.job.proofs.last.last.Goals as goal
-
--- HELPER
-abbrev passed : ℕ → Progress → Type 0
-passed i p = unbound_head (body_of p.rule) (tab i (head_at p.rule)) (tab i (λ (j : ℕ). get_or p.places j 0)) ≡ none
 
 pub loop-i-init : goal.loop-i-init
 loop-i-init c = (omega arith, omega (arith, c.requires.heads), refl, refl, refl, heads_none _ _ _)

@@ -1,11 +1,11 @@
-use Rattle.std.proofs.Common.{◌≡◌, ◌+◌, ◌<◌, ◌≤◌, ◌∙◌, ℕ, List, length, refl, arith}
+use Rattle.std.proofs.Common.{◌≡◌, ◌+◌, ◌<◌, ◌≤◌, ◌∙◌, ℕ, List, get_or, length, refl, arith}
 use lib.ListN.{length-replicate}
-use Rattle.meaning.specs.Job.{job_limit}
-use Rattle.meaning.specs.Reading.{length_at, row_tag, tag_at}
+use Rattle.meaning.specs.Job.{job_limit, predicate_limit, row_limit, arity_limit}
+use Rattle.meaning.specs.Reading.{byte_at, length_at, row_tag, tag_at}
 use Rattle.rule.specs.Limits.{cell_limit, index_limit}
-use Rattle.job.specs.Progress.{Well, Filled, read_of}
+use Rattle.job.specs.Progress.{farthest, Well, Filled, read_of}
 use Rattle.job.specs.Fault.{Judges}
-use Rattle.job.specs.Grow.{Ready, RowReady, Stepped}
+use Rattle.job.specs.Grow.{Ready, Stepped}
 use Rattle.job.specs.declared.progress.Progress.{Progress}
 use Rattle.job.specs.declared.fault.Judged.{Judged}
 use Rattle.job.specs.declared.fault.Judged.TheVariants.{Fine}
@@ -15,14 +15,17 @@ use Rattle.job.proofs.Stores.{Storing, stores_first, stores_long, stores_on, sto
 use Rattle.job.proofs.Ends.{Going, too_long, starts, refuses, continues, is_fine, accepts, kept}
 use Rattle.job.proofs.reading.read_job.Goals as goal
 
--- a field that is judged fine
+-- the field at hand, which has no fault
 module _ (s : List ℕ) (at : ℕ) (p : Progress) (found : Judged) (t : at < length s) (l : length s ≤ job_limit) (w : Well p) (e : found ≡ Fine) (j : Judges found s at p 0) where
   ready : Ready s at p
   ready = record { near = omega arith; well = w; sound = sound s at p w (is_fine found s at p e j) }
 
-  ready_row : (tag : ℕ) → tag ≡ tag_at s at → tag ≡ 2 → RowReady s at p
-  ready_row tag q k = ready_2 s at p ready (tag_at_lem s at tag row_tag q (tag_2 tag k))
+  -- a row: the sizes of what is stored
+  small : (tag q : ℕ) → tag ≡ tag_at s at → tag ≡ 2 → q ≡ byte_at s (at + 3)
+      → (at + 128 < farthest) × (q < predicate_limit) × (get_or p.arities q 0 ≤ arity_limit) × (get_or p.rows q 0 ≤ p.total) × (p.total < row_limit)
+  small tag q e k = row_small s at p q (ready_2 s at p ready (tag_at_lem s at tag row_tag e (tag_2 tag k)))
 
+  -- the field is read, and the loop goes on behind it
   on : (p' : Progress) (cells index cells' index' : List ℕ) (n : ℕ)
       → Going s at (read_of p cells index) → Storing s at p cells index → Stepped s at p p' cells index cells' index' → n ≡ length_at s at
       → (at + 3 + n ≤ length s) × (length s ≤ job_limit) × Well p' × Filled p' cells' index' × Going s (at + 3 + n) (read_of p' cells' index') × Storing s (at + 3 + n) p' cells' index'
@@ -56,23 +59,23 @@ returns-in-Faulty-clause-holds c =
 
 pub bounds-p-predicate : goal.bounds-p-predicate
 bounds-p-predicate c =
-    omega (arith, row_small _ _ _ _ (ready_row _ _ _ _ c.loop-at-test.true c.loop-at.invariant.1 c.loop-at.invariant.2 c.in_default.is c.judge.ensures _ c.byte.ensures.0 c.if-byte-eq-ROW.true) c.byte-predicate.ensures.0)
+    omega (arith, small _ _ _ _ c.loop-at-test.true c.loop-at.invariant.1 c.loop-at.invariant.2 c.in_default.is c.judge.ensures _ _ c.byte.ensures.0 c.if-byte-eq-ROW.true c.byte-predicate.ensures.0)
 
 pub bounds-p-predicate-then-byte-eq-ROW : goal.bounds-p-predicate-then-byte-eq-ROW
 bounds-p-predicate-then-byte-eq-ROW c =
-    omega (arith, row_small _ _ _ _ (ready_row _ _ _ _ c.loop-at-test.true c.loop-at.invariant.1 c.loop-at.invariant.2 c.in_default.is c.judge.ensures _ c.byte.ensures.0 c.if-byte-eq-ROW.true) c.byte-predicate.ensures.0)
+    omega (arith, small _ _ _ _ c.loop-at-test.true c.loop-at.invariant.1 c.loop-at.invariant.2 c.in_default.is c.judge.ensures _ _ c.byte.ensures.0 c.if-byte-eq-ROW.true c.byte-predicate.ensures.0)
 
 pub store_row-requires : goal.store_row-requires
 store_row-requires c =
-    row_small _ _ _ _ (ready_row _ _ _ _ c.loop-at-test.true c.loop-at.invariant.1 c.loop-at.invariant.2 c.in_default.is c.judge.ensures _ c.byte.ensures.0 c.if-byte-eq-ROW.true) c.byte-predicate.ensures.0
+    small _ _ _ _ c.loop-at-test.true c.loop-at.invariant.1 c.loop-at.invariant.2 c.in_default.is c.judge.ensures _ _ c.byte.ensures.0 c.if-byte-eq-ROW.true c.byte-predicate.ensures.0
 
 pub overflow_add-p : goal.overflow_add-p
 overflow_add-p c =
-    omega (arith, row_small _ _ _ _ (ready_row _ _ _ _ c.loop-at-test.true c.loop-at.invariant.1 c.loop-at.invariant.2 c.in_default.is c.judge.ensures _ c.byte.ensures.0 c.if-byte-eq-ROW.true) c.byte-predicate.ensures.0)
+    omega (arith, small _ _ _ _ c.loop-at-test.true c.loop-at.invariant.1 c.loop-at.invariant.2 c.in_default.is c.judge.ensures _ _ c.byte.ensures.0 c.if-byte-eq-ROW.true c.byte-predicate.ensures.0)
 
 pub bounds-p-predicate-then-byte-eq-ROW-2 : goal.bounds-p-predicate-then-byte-eq-ROW-2
 bounds-p-predicate-then-byte-eq-ROW-2 c =
-    omega (arith, row_small _ _ _ _ (ready_row _ _ _ _ c.loop-at-test.true c.loop-at.invariant.1 c.loop-at.invariant.2 c.in_default.is c.judge.ensures _ c.byte.ensures.0 c.if-byte-eq-ROW.true) c.byte-predicate.ensures.0)
+    omega (arith, small _ _ _ _ c.loop-at-test.true c.loop-at.invariant.1 c.loop-at.invariant.2 c.in_default.is c.judge.ensures _ _ c.byte.ensures.0 c.if-byte-eq-ROW.true c.byte-predicate.ensures.0)
 
 pub grow-next-requires : goal.grow-next-requires
 grow-next-requires c =
