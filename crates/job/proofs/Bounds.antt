@@ -62,7 +62,7 @@ vars_append (variable v ∷ xs) ys = ap (λ (l : List ℕ). v ∷ l) (vars_appen
 
 module _ (b : List Bool) where
   free_nil : free b [] ≡ false
-  unfolding free vars_of any
+  unfolding free vars_of
   free_nil = refl
 
   free_append : (xs ys : List Term) → free b (xs ++ ys) ≡ free b xs || free b ys
@@ -70,7 +70,7 @@ module _ (b : List Bool) where
   free_append xs ys = rw (vars_append xs ys) (any_append (λ (v : ℕ). not (is_bound b v)) (vars_of xs) (vars_of ys))
 
   free_one : (t : Term) → free b (t ∷ []) ≡ free_term b t
-  unfolding free free_term vars_of any
+  unfolding free free_term vars_of
   free_one (number n) = refl
   free_one (variable v) = or_false (not (is_bound b v))
 
@@ -108,7 +108,6 @@ module _ (b : List Bool) where
 -- the bound variables of a body
 
 any_ext : {A : Type 0} (f g : A → Bool) (xs : List A) → ((x : A) → f x ≡ g x) → any f xs ≡ any g xs
-unfolding any
 any_ext f g [] h = refl
 any_ext f g (x ∷ xs) h = rw (h x, any_ext f g xs h)
 
@@ -189,7 +188,7 @@ none_at g f n k e l = go (g (f k)) refl
     go true q = let z : true ≡ false = sym (any_hit g f n k l q) ∙ e in let y : ◌≡◌ {A = ℕ} 0 1 = cc in absurd (omega arith)
 
 bound_one : (b : List Bool) (t : Term) (v : ℕ) → length b ≡ variable_limit → SmallTerm t → is_bound (mark_one b t) v ≡ (is_bound b v || in? v (vars_of (t ∷ [])))
-unfolding mark_one is_bound in? vars_of any
+unfolding mark_one is_bound in? vars_of
 bound_one b (number n) v l h = sym (or_false (ltb v variable_limit && get_or b v false))
 bound_one b (variable u) v l h = rw (lt-ltb u variable_limit h) (go (ℕ_discrete v u))
   where
@@ -216,7 +215,7 @@ unfolding in?
 in_append v xs ys = rw (vars_append xs ys) (any_append (eqb v) (vars_of xs) (vars_of ys))
 
 bound_tab : (b : List Bool) (n : ℕ) (f : ℕ → Term) (v : ℕ) → length b ≡ variable_limit → ((k : ℕ) → k < n → SmallTerm (f k)) → is_bound (marked b (tab n f)) v ≡ (is_bound b v || in? v (vars_of (tab n f)))
-unfolding tab marked in? vars_of any
+unfolding tab marked in? vars_of
 bound_tab b zero f v l h = sym (or_false (is_bound b v))
 bound_tab b (suc n) f v l h =
     ap (λ (c : List Bool). is_bound c v) (marked_append b b (tab n f) (f n))
@@ -228,14 +227,14 @@ bound_tab b (suc n) f v l h =
 module _ (b : List Bool) (items : List Item) (h : Bound b items) where
   bound_positive : (s : List ℕ) (q i n : ℕ) → length b ≡ variable_limit → any (bad_term s) (term_places i n) ≡ false
       → Bound (marked b (terms_at s i n)) (items ++ (positive q (terms_at s i n) ∷ []))
-  unfolding any holds
+  unfolding holds
   bound_positive s q i n l g v =
       bound_tab b n (λ (k : ℕ). term_at s (i + 5 * k)) v l (λ k j. small_term s (i + 5 * k) (none_at (bad_term s) (λ (m : ℕ). i + 5 * m) n k g j))
       ∙ rw (h v) (ap (λ (c : Bool). any (holds v) items || c) (sym (or_false (in? v (vars_of (terms_at s i n)))))
       ∙ sym (any_append (holds v) items (positive q (terms_at s i n) ∷ [])))
 
   pub bound_test : (k : Test) (ts : List Term) → Bound b (items ++ (test k ts ∷ []))
-  unfolding any holds
+  unfolding holds
   bound_test k ts v = h v ∙ sym (any_append (holds v) items (test k ts ∷ []) ∙ or_false (any (holds v) items))
 
   pub bound_literal : (s : List ℕ) (at n : ℕ) → n ≤ arity_limit → length b ≡ variable_limit → out_of_range literal_tag s at n ≡ false

@@ -186,7 +186,7 @@ and_false true = refl
 and_false false = refl
 
 well_yet : Well nothing_yet
-unfolding nothing_yet body_of tab sum any is_bound
+unfolding nothing_yet body_of tab sum is_bound
 well_yet = record {
   predicates = omega arith;
   heads = omega arith;

@@ -2,6 +2,7 @@
 pub mod Cases
 pub mod Basics
 pub mod Tab
+pub mod Made
 pub mod Reading
 pub mod Counter
 pub mod Group

@@ -8,7 +8,7 @@ use native.Mathlib.Nat.{le_of_suc-le-suc, not-suc-le-zero}
 use native.Mathlib.Omega.{arith}
 use lib.ListN.{length, get_or}
 use lib.Dec.{T, eqb, eqb→eq}
-use Rattle.meaning.specs.Basics.{any, in?}
+use Rattle.meaning.specs.Basics.{in?}
 use Rattle.meaning.specs.Job.{Term, number, variable, Item, positive, test, Job, vars_of, vars, holds, binder, no_item, size, item_at, rows_of, Safe}
 use Rattle.meaning.specs.Relevant.{Choice, fill, Lower, Instance, Rises, Holds, Valid, relevant, cut, Supports, Listing}
 use Rattle.meaning.specs.Rows.{Rows, row_at, cell, laid, value, values, fits_item, fits, count_item, count}
@@ -22,7 +22,7 @@ use Rattle.meaning.proofs.Walk.{Fine, walk_fine}
 
 -- a cell of a literal that is filled in
 cell_fill : (θ : Choice) (ts : List Term) (v : ℕ) → T (in? v (vars_of ts)) → cell ts (map (fill θ) ts) v ≡ θ v
-unfolding in? vars_of any cell fill
+unfolding in? vars_of cell fill
 cell_fill θ [] v t = absurd t
 cell_fill θ (number n ∷ ts) v t = cell_fill θ ts v t
 cell_fill θ (variable w ∷ ts) v t =

@@ -65,7 +65,7 @@ module _ {A : Type 0} where
 -- terms
 
 vars_append : (ts us : List Term) (v : ℕ) → T (in? v (vars_of (ts ++ us))) → T (in? v (vars_of ts)) ⊎ T (in? v (vars_of us))
-unfolding in? any vars_of
+unfolding in? vars_of
 vars_append [] us v t = inr t
 vars_append (number n ∷ ts) us v t = vars_append ts us v t
 vars_append (variable w ∷ ts) us v t = elim (or_cases (eqb v w) (any (eqb v) (vars_of (ts ++ us))) t) [
@@ -74,7 +74,7 @@ vars_append (variable w ∷ ts) us v t = elim (or_cases (eqb v w) (any (eqb v) (
 ]
 
 small_term : (s : List ℕ) (i v : ℕ) → bad_term s i ≡ false → T (in? v (vars_of (term_at s i ∷ []))) → v < variable_limit
-unfolding bad_term term_at in? any vars_of
+unfolding bad_term term_at in? vars_of
 small_term s i v e t =
     let b = or_none (ltb 1 (byte_at s i)) (eqb (byte_at s i) 1 && leb variable_limit (be32 s (i + 1))) e in
     elim (split (eqb (byte_at s i) 0)) [
@@ -90,7 +90,7 @@ small_term s i v e t =
     one (suc n) h k = omega arith
 
 no_vars : (v : ℕ) → T (in? v (vars_of [])) → ⊥
-unfolding in? any vars_of
+unfolding in? vars_of
 no_vars v t = t
 
 pub small_terms : (s : List ℕ) (i n : ℕ) → any (bad_term s) (term_places i n) ≡ false → Small (terms_at s i n)
@@ -106,7 +106,7 @@ small_terms s i (suc n) e v t =
 -- what binds
 
 pub binder_lt : (b : List Item) (v : ℕ) → T (any (holds v) b) → binder b v < length b
-unfolding binder any
+unfolding binder
 binder_lt [] v t = absurd t
 binder_lt (x ∷ b) v t =
     elim (split (holds v x)) [

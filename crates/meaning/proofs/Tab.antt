@@ -27,7 +27,6 @@ or_assoc true b c = refl
 or_assoc false b c = refl
 
 pub any_append : {A : Type 0} (f : A → Bool) (xs ys : List A) → any f (xs ++ ys) ≡ any f xs || any f ys
-unfolding any
 any_append f [] ys = refl
 any_append f (x ∷ xs) ys = ap (λ (b : Bool). f x || b) (any_append f xs ys) ∙ sym (or_assoc (f x) (any f xs) (any f ys))
 
@@ -74,11 +73,9 @@ module _ {A : Type 0} (G : List A → ℕ) (join : (xs ys : List A) → G (xs ++
 -- a search by a test
 module _ {A : Type 0} (g : A → Bool) (f : ℕ → A) where
   any_nil : any g [] ≡ false
-  unfolding any
   any_nil = refl
 
   any_one : (x : A) → any g (x ∷ []) ≡ g x
-  unfolding any
   any_one x = or_false (g x)
 
   pub any_none : any g (tab 0 f) ≡ false
@@ -106,7 +103,6 @@ from_tab zero n = refl
 from_tab (suc c) n = from_snoc c n ∙ ap (λ (l : List ℕ). l ++ ((n + c) ∷ [])) (from_tab c n)
 
 pub keep_append : (f : ℕ → Bool) (xs ys : List ℕ) → keep f (xs ++ ys) ≡ keep f xs ++ keep f ys
-unfolding keep
 keep_append f [] ys = refl
 keep_append f (x ∷ xs) ys = elim (split (f x)) [
   | inl e ↦ rw (e, keep) (ap (λ (l : List ℕ). x ∷ l) (keep_append f xs ys))
@@ -114,11 +110,9 @@ keep_append f (x ∷ xs) ys = elim (split (f x)) [
 ]
 
 pub keep_yes : (f : ℕ → Bool) (v : ℕ) → f v ≡ true → keep f (v ∷ []) ≡ v ∷ []
-unfolding keep
 keep_yes f v e = rw (e, keep) refl
 
 pub keep_no : (f : ℕ → Bool) (v : ℕ) → f v ≡ false → keep f (v ∷ []) ≡ []
-unfolding keep
 keep_no f v e = rw (e, keep) refl
 
 -- filling an array
@@ -135,7 +129,7 @@ module _ {A : Type 0} (f : ℕ → A) where
   fill_all l i n q h e = sym (take_all i l h) ∙ e ∙ ap (λ (k : ℕ). tab k f) q
 
 pub any_tab_elim : {A : Type 0} (g : A → Bool) (f : ℕ → A) (n : ℕ) → any g (tab n f) ≡ true → (i : ℕ) × (i < n) × (g (f i) ≡ true)
-unfolding tab any
+unfolding tab
 any_tab_elim g f zero e = absurd (clash e)
   where
     clash : false ≡ true → ⊥

@@ -1,5 +1,6 @@
 -- Lists and tests that compute.
-use Rattle.std.specs.Prelude.{Bool, true, false, ◌&&◌, ◌||◌, List, [], ◌∷◌, ◌++◌, ℕ, zero, suc, eqb}
+use Rattle.std.specs.Prelude.{Bool, true, false, ◌&&◌, List, [], ◌∷◌, ◌++◌, ℕ, zero, suc, eqb}
+use Rattle.std.specs.List.{filter, list_any}
 
 -- f 0 to f (n - 1)
 unfoldable pub tab : {A : Type 0} → ℕ → (ℕ → A) → List A
@@ -7,9 +8,8 @@ tab zero f = []
 tab (suc n) f = tab n f ++ (f n ∷ [])
 
 -- one of the list passes the test
-unfoldable pub any : {A : Type 0} → (A → Bool) → List A → Bool
-any f [] = false
-any f (x ∷ xs) = f x || any f xs
+abbrev pub any : {A : Type 0} → (A → Bool) → List A → Bool
+any = list_any
 
 -- n is in the list
 unfoldable pub in? : ℕ → List ℕ → Bool
@@ -23,9 +23,8 @@ same (x ∷ xs) [] = false
 same (x ∷ xs) (y ∷ ys) = eqb x y && same xs ys
 
 -- those that pass the test
-unfoldable pub keep : (ℕ → Bool) → List ℕ → List ℕ
-keep f [] = []
-keep f (n ∷ ns) = elim (f n) [ true ↦ n ∷ keep f ns | false ↦ keep f ns ]
+abbrev pub keep : (ℕ → Bool) → List ℕ → List ℕ
+keep = filter
 
 -- the c numbers from n on
 unfoldable pub from : ℕ → ℕ → List ℕ
