@@ -6,13 +6,13 @@ mod cells;
 mod record;
 
 use crate::cells::{fill, weigh};
-use crate::record::{Head, Record, read_head};
-use input::{read_full, tell_failed};
-use rule::{JOB_LIMIT, at_most};
-use std::fs::File;
+use crate::record::{Head, read_head};
+use ground::Engine;
+use input::{read_full, with_file};
+use rule::JOB_LIMIT;
 use std::io;
 use std::io::{Read, Write};
-use std::rt::{Env, Files};
+use std::rt::Env;
 
 // The cells of the longest list that is lent.
 const LIST_ROOM: usize = 4096;
@@ -29,14 +29,14 @@ const PATH_ROOM: usize = 4096;
 // A job's lines, and the weight of the lent cells after the run.
 fn run(
     rt: &impl Print,
-    plain: bool,
+    engine: Engine,
     job: &[u8],
     allowance: u32,
     list: &mut [u32],
 ) -> io::Result<()> {
     fill(list);
     let shape = ground::shape_of(job);
-    let answer = ground::ground_by(plain, job, allowance, list);
+    let answer = ground::ground_by(engine, job, allowance, list);
     let mut text = [0u8; TEXT_ROOM];
     let written = lines::write_lines(answer, shape, &list[..], &mut text);
     io::writer(rt).write_all(&text[..written])?;
@@ -52,55 +52,34 @@ fn run_record<R: Read>(
     job: &mut [u8],
     list: &mut [u32],
 ) -> io::Result<()> {
-    let length = at_most(head.length, job.len());
+    let length = head.length.min(job.len());
     let got = read_full(file, &mut job[..length])?;
-    let many = at_most(head.cells, list.len());
+    let many = head.cells.min(list.len());
     run(
         rt,
-        head.plain,
+        head.engine,
         &job[..got],
         head.allowance,
         &mut list[..many],
     )
 }
 
-// Runs the next record's job under its number. Answers whether there was one.
-fn run_next<R: Read>(rt: &impl Print, file: &mut R, number: u64) -> io::Result<bool> {
-    let Record::Head(head) = read_head(file)? else {
-        return Ok(false);
-    };
-    println!(rt; "# {number}")?;
-    let mut job = [0u8; JOB_ROOM];
-    let mut list = [0u32; LIST_ROOM];
-    run_record(rt, head, file, &mut job, &mut list)?;
-    Ok(true)
-}
-
+// Runs each record's job under its number.
 fn run_all<R: Read>(rt: &impl Print, file: &mut R) -> io::Result<()> {
     for number in 0..u64::MAX {
-        if !run_next(rt, file, number)? {
+        let Some(head) = read_head(file)? else {
             break;
-        }
+        };
+        println!(rt; "# {number}")?;
+        let mut job = [0u8; JOB_ROOM];
+        let mut list = [0u32; LIST_ROOM];
+        run_record(rt, head, file, &mut job, &mut list)?;
     }
     Ok(())
-}
-
-fn run_file<R: Files + Print + Eprint + Alloc>(rt: &R, path: &str) -> io::Result<()> {
-    match File::open(rt, path) {
-        Ok(mut file) => run_all(rt, &mut file),
-        Err(error) => tell_failed(rt, path, error),
-    }
 }
 
 fn main(rt: HostRuntime) -> io::Result<()> {
     let mut path = [0u8; PATH_ROOM];
     let length = rt.arg(1, &mut path).unwrap_or(0);
-    match str::from_utf8(&path[..length]) {
-        Ok(path) => run_file(&rt, path),
-        Err(_) => tell_failed(
-            &rt,
-            "argument",
-            io::Error::from(io::ErrorKind::InvalidFilename),
-        ),
-    }
+    with_file(&rt, &path[..length], |mut file| run_all(&rt, &mut file))
 }

@@ -1,6 +1,6 @@
 -- An answer in three numbers, and the list's cells.
 use Rattle.std.specs.Prelude.{ℕ, List}
-use Rattle.meaning.specs.List.{complete, stopped, full}
+use Rattle.meaning.specs.List.{Ending, complete, stopped, full}
 use Rattle.meaning.specs.Ground.{Answer, refusal, ran, Grounded}
 
 pub record Told : Type 0 where
@@ -9,10 +9,14 @@ pub record Told : Type 0 where
   pub second : ℕ
   pub cells : List ℕ
 
+abbrev pub number_of : Ending → ℕ
+number_of complete = 0
+number_of stopped = 1
+number_of full = 2
+
+-- the number of an ending, or 3 for a refusal
 abbrev pub ending_of : Answer → ℕ
-ending_of (ran complete entries tests) = 0
-ending_of (ran stopped entries tests) = 1
-ending_of (ran full entries tests) = 2
+ending_of (ran ending entries tests) = number_of ending
 ending_of (refusal number place) = 3
 
 -- the entries written, or a refusal's number

@@ -3,44 +3,21 @@
 
 ghost use Rattle.std.specs.Prelude.{◌≡◌};
 ghost use Rattle.meaning.specs.Ground.{ground as grounding};
-ghost use Rattle.ground.specs.Answer.{answer_of};
-ghost use Rattle.exported.specs.Told.{ending_of, first_of, second_of, told, told_of};
+ghost use Rattle.walk.specs.Ran.{ending_of};
+ghost use Rattle.exported.specs.Told.{told, told_of, number_of};
 
-use ground::{Answer, ground};
+use ground::{Ending, ground};
 
-// 0 complete, 1 stopped, 2 full, 3 refused.
-fn ending_of(answer: Answer) -> u32
-    ensures { result ≡ ending_of (answer_of answer) }
+// How a refusal is told in place of an ending.
+const REFUSED: u32 = 3;
+
+fn number(ending: Ending) -> u32
+    ensures { result ≡ number_of (ending_of ending) }
 {
-    match answer {
-        Answer::Complete(_, _) => 0,
-        Answer::Stopped(_, _) => 1,
-        Answer::Full(_, _) => 2,
-        Answer::Refused(_, _) => 3,
-    }
-}
-
-// The entries written, or a refusal's number.
-fn first_of(answer: Answer) -> usize
-    ensures { result ≡ first_of (answer_of answer) }
-{
-    match answer {
-        Answer::Complete(entries, _) => entries,
-        Answer::Stopped(entries, _) => entries,
-        Answer::Full(entries, _) => entries,
-        Answer::Refused(number, _) => number,
-    }
-}
-
-// The tests made, or a refusal's place.
-fn second_of(answer: Answer) -> usize
-    ensures { result ≡ second_of (answer_of answer) }
-{
-    match answer {
-        Answer::Complete(_, tests) => tests as usize,
-        Answer::Stopped(_, tests) => tests as usize,
-        Answer::Full(_, tests) => tests as usize,
-        Answer::Refused(_, place) => place,
+    match ending {
+        Ending::Complete => 0,
+        Ending::Stopped => 1,
+        Ending::Full => 2,
     }
 }
 
@@ -54,8 +31,16 @@ pub extern "C" fn yozgarmi_ground(
 ) -> usize
     ensures { told ending.new result tests.new list.new ≡ told_of (grounding job.now allowance list.old) }
 {
-    let answer = ground(job, allowance, list);
-    *ending = ending_of(answer);
-    *tests = second_of(answer);
-    first_of(answer)
+    match ground(job, allowance, list) {
+        Ok(ended) => {
+            *ending = number(ended.ending);
+            *tests = ended.tests as usize;
+            ended.entries
+        }
+        Err(refusal) => {
+            *ending = REFUSED;
+            *tests = refusal.place;
+            usize::from(refusal.fault)
+        }
+    }
 }

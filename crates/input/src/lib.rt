@@ -4,8 +4,10 @@
 ghost use Rattle.std.specs.Prelude.{◌≤◌, ◌<◌, IfOk, length, take};
 ghost use Rattle.std.specs.Io.KnownBytes.{Consumes, IsAtEnd};
 
+use std::fs::File;
 use std::io;
 use std::io::Read;
+use std::rt::Files;
 
 // Reads until the buffer is full or the input ends: the bytes stand at its start.
 pub fn read_full<R: Read>(reader: &mut R, buffer: &mut [u8]) -> io::Result<usize>
@@ -37,6 +39,24 @@ pub fn tell_failed<R: Eprint + Alloc>(rt: &R, what: &str, error: io::Error) -> i
     let told = format!(in rt.alloc(); "{error}")?;
     let words = without_number(told.as_str());
     eprintln!(rt; "{what}: {words}")
+}
+
+// Does the work with the file that a path names, or tells what failed.
+pub fn with_file<R: Files + Eprint + Alloc, F: FnOnce(R::File) -> io::Result<()>>(
+    rt: &R,
+    path: &[u8],
+    work: F,
+) -> io::Result<()>
+    requires { F.IsAlwaysCallable work }
+{
+    let Ok(path) = str::from_utf8(path) else {
+        let error = io::Error::from(io::ErrorKind::InvalidFilename);
+        return tell_failed(rt, "argument", error);
+    };
+    match File::open(rt, path) {
+        Ok(file) => work(file),
+        Err(error) => tell_failed(rt, path, error),
+    }
 }
 
 #[test]

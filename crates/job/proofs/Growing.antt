@@ -1,50 +1,32 @@
 -- A field with no fault, from the record and the arrays to the reading.
 use Prim.Native.Nat.{ℕ, ◌+◌, ◌*◌, ◌<◌, ◌≤◌}
 use mathlib.Core.Path.{◌≡◌, refl, sym, ap, ◌∙◌}
-use mathlib.Core.Bool.{Bool, false}
-use mathlib.Core.Logic.{inl}
+use mathlib.Core.Bool.{Bool}
+use mathlib.Core.Logic.{⊎_elim, inl}
 use mathlib.Core.List.{List, [], ◌∷◌, ◌++◌}
 use native.Mathlib.Omega.{arith}
 use native.Mathlib.Decide.{ℕ_discrete}
-use borrow.Author.Tests.{eq-eqb, ne_eqb, lt-ltb}
 use lib.Dec.{eqb}
-use lib.ListN.{length, get_or, set, length-set}
-use lib.Seq.{get_or-set_same, get_or-set_other}
+use lib.ListN.{length, get_or, set, length-set, get_or-append}
+use lib.Seq.{get_or-set_same, get_or-set_other, get_or-append_seam}
+use borrow.Author.Tests.{lt-ltb}
+use Rattle.std.proofs.lemmas.Bool.{cases_lt}
+use Rattle.std.proofs.lemmas.List.{length_push, get_or_past}
 use Rattle.meaning.specs.Basics.{tab, any}
-use Rattle.meaning.specs.Job.{predicate_limit, row_limit, head_limit, item_limit, arity_limit, variable_limit, Comparison, Item, Head, holds}
+use Rattle.meaning.specs.Job.{predicate_limit, row_limit, head_limit, item_limit, arity_limit, Comparison, Item, Head, holds}
 use Rattle.meaning.specs.Reading.{byte_at, Tag, predicate_tag, row_tag, head_tag, literal_tag, comparison_tag, tag_at, tag_of, line_of, places_at, row_in, head_in, literal_in, comparison_in, Read, added, placed, after}
+use Rattle.meaning.proofs.Basics.{map_append}
 use Rattle.meaning.proofs.Tab.{get_or_tab, tab_ext, tab_grow, tab_set}
 use Rattle.rule.specs.declared.Item.{Item as ItemR}
-use Rattle.rule.specs.Rule.{terms_of, no_item, item_of, item_at, body_of, head_of, head_at, heads_of, solved_of}
+use Rattle.rule.specs.Rule.{item_of, body_of, head_of, heads_of}
 use Rattle.job.specs.Puts.{puts}
-use Rattle.job.specs.Bound.{Bound, marked}
-use Rattle.job.specs.Progress.{cell_from, head_from, comparison_from, row_of, arities_of, tables_of, places_of, read_of, Well, Filled}
-use Rattle.job.specs.Grow.{with_predicate, RowReady, with_row, with_cells, with_index, with_head, with_item, literal_of, with_literal, with_comparison}
+use Rattle.job.specs.Bound.{Bound, marked_by}
+use Rattle.job.specs.Progress.{cell_from, head_from, comparison_from, row_of, tables_of, read_of, Well, Filled}
+use Rattle.job.specs.Grow.{in_group, with_predicate, RowReady, with_row, with_cells, with_index, with_head, with_item, literal_of, with_literal, with_comparison}
 use Rattle.job.specs.declared.progress.Progress.{Progress}
 use Rattle.job.proofs.Puts.{length_puts, get_or_puts_in, get_or_puts_out}
 use Rattle.job.proofs.TermLaws.{head_is, literal_is, comparison_is}
-use Rattle.job.proofs.Sums.{sum_grow, sum_set, sum_part, grow_min}
-
--- what `grow_literal` makes
-
-module _ (s : List ℕ) (at group : ℕ) (p : Progress) (x : ItemR) (e : x ≡ literal_of s at p) (a : Progress) (h : a ≡ with_item group x p p.bound) where
-  pub grown_positive : (b : List Bool) → x.kind ≡ 0 → b ≡ marked p.bound (terms_of x)
-      → record { group = a.group; places = a.places; bound = b; rule = a.rule; arities = a.arities; rows = a.rows; total = a.total } ≡ with_literal s at group p
-  unfolding with_literal
-  grown_positive b k q = rw (h, q, ← e, eq-eqb x.kind 0 k) refl
-
-  pub grown_negated : (x.kind ≡ 0 → ⊥) → a ≡ with_literal s at group p
-  unfolding with_literal
-  grown_negated k = rw (← e, ne_eqb x.kind 0 k) h
-
--- the arrays' lengths
-pub record Sizes (p : Progress) : Type 0 where
-  pub places : length p.places ≡ head_limit
-  pub bound : length p.bound ≡ variable_limit
-  pub items : length p.rule.items ≡ item_limit
-  pub heads : length p.rule.heads ≡ head_limit
-  pub solved : length p.rule.solved ≡ predicate_limit
-  pub arities : length p.arities ≡ predicate_limit
+use Rattle.job.proofs.Sums.{sum_grow, sum_set, sum_part}
 
 abbrev read_with : ℕ → List ℕ → List ℕ → List (List (List ℕ)) → List Bool → List Head → List Item → Read
 read_with group places arities rows solved heads body =
@@ -59,80 +41,74 @@ after_1 : (s : List ℕ) (at : ℕ) (st : Read) → tag_of (tag_at s at) ≡ pre
 unfolding after added placed
 after_1 s at st e = rw e refl
 
-module _ (s : List ℕ) (at group : ℕ) (p : Progress) (z : Sizes p) (w : Well p) (room : p.rule.predicates < predicate_limit) (cells index : List ℕ) where
+module _ (s : List ℕ) (at : ℕ) (p : Progress) (w : Well p) (room : length p.arities < predicate_limit) (cells index : List ℕ) where
   abbrev new : Progress
-  new = with_predicate s at group p
+  new = with_predicate s at (in_group 1 p)
 
   abbrev n₁ : ℕ
-  n₁ = p.rule.predicates
+  n₁ = length p.arities
 
-  arity_old : (i : ℕ) → (i ≡ n₁ → ⊥) → get_or new.arities i 0 ≡ get_or p.arities i 0
-  arity_old i e = get_or-set_other p.arities n₁ i (byte_at s (at + 3)) 0 e
+  more : length new.arities ≡ n₁ + 1
+  more = length_push p.arities (byte_at s (at + 3))
 
-  arity_new : get_or new.arities n₁ 0 ≡ byte_at s (at + 3)
-  arity_new = get_or-set_same p.arities n₁ (byte_at s (at + 3)) 0 (omega (arith, z.arities))
+  arity_old : (i : ℕ) → i < n₁ → get_or new.arities i 0 ≡ get_or p.arities i 0
+  arity_old i l = get_or-append p.arities (byte_at s (at + 3) ∷ []) 0 i l
 
-  rows_old : (i : ℕ) → (i ≡ n₁ → ⊥) → get_or new.rows i 0 ≡ get_or p.rows i 0
-  rows_old i e = get_or-set_other p.rows n₁ i 0 0 e
+  rows_old : (i : ℕ) → i < n₁ → get_or new.rows i 0 ≡ get_or p.rows i 0
+  rows_old i l = get_or-set_other p.rows n₁ i 0 0 (λ e. omega arith)
 
   rows_new : get_or new.rows n₁ 0 ≡ 0
   rows_new = get_or-set_same p.rows n₁ 0 0 (omega (arith, w.rows_length))
 
-  arities_grow : arities_of new.rule new.arities ≡ arities_of p.rule p.arities ++ (byte_at s (at + 3) ∷ [])
-  unfolding arities_of
-  arities_grow = tab_grow n₁ _ (λ (q : ℕ). get_or p.arities q 0) (byte_at s (at + 3)) (λ i l. arity_old i (λ e. omega arith)) (sym arity_new)
-
-  tables_grow : tables_of new.rule new.arities new.rows cells index ≡ tables_of p.rule p.arities p.rows cells index ++ ([] ∷ [])
+  tables_grow : tables_of new.arities new.rows cells index ≡ tables_of p.arities p.rows cells index ++ ([] ∷ [])
   unfolding tables_of tab
   tables_grow =
-      tab_grow n₁ _ (λ (q : ℕ). tab (get_or p.rows q 0) (row_of (get_or p.arities q 0) cells index q)) []
-      (λ i l. rw (arity_old i (λ e. omega arith), rows_old i (λ e. omega arith)) refl)
-      (rw rows_new refl)
+      rw more
+      (tab_grow n₁ _ (λ (q : ℕ). tab (get_or p.rows q 0) (row_of (get_or p.arities q 0) cells index q)) []
+      (λ i l. rw (arity_old i l, rows_old i l) refl)
+      (rw rows_new refl))
 
-  solved_grow : solved_of new.rule ≡ solved_of p.rule ++ (eqb (byte_at s (at + 4)) 1 ∷ [])
-  unfolding solved_of
-  solved_grow =
-      grow_min n₁ predicate_limit _ (λ (q : ℕ). get_or p.rule.solved q false) (eqb (byte_at s (at + 4)) 1) room
-      (λ i l. get_or-set_other p.rule.solved n₁ i (eqb (byte_at s (at + 4)) 1) false (λ e. omega arith))
-      (sym (get_or-set_same p.rule.solved n₁ (eqb (byte_at s (at + 4)) 1) false (omega (arith, z.solved))))
-
-  pub predicate_read : tag_of (tag_at s at) ≡ predicate_tag → group ≡ 1 → read_of new cells index ≡ after s at (read_of p cells index)
-  unfolding places_of heads_of body_of
-  predicate_read e g =
+  pub predicate_read : tag_of (tag_at s at) ≡ predicate_tag → read_of new cells index ≡ after s at (read_of p cells index)
+  unfolding heads_of body_of
+  predicate_read e =
       rw (after_1 s at (read_of p cells index) e)
-      (λ i. read_with (g i) (places_of p) (arities_grow i) (tables_grow i) (solved_grow i) (heads_of p.rule) (body_of p.rule))
+      (λ i. read_with 1 p.places new.arities (tables_grow i) new.rule.solved (heads_of p.rule) (body_of p.rule))
 
   pub predicate_well : byte_at s (at + 3) ≤ arity_limit → Well new
   unfolding body_of
   predicate_well small =
       record {
-        predicates = omega arith;
+        predicates = omega (arith, more);
+        solved = length_push p.rule.solved _ ∙ ap (λ (i : ℕ). i + 1) w.solved ∙ sym more;
         heads = w.heads;
-        heads_length = w.heads_length;
+        places = w.places;
         items = w.items;
-        items_length = w.items_length;
         rows_length = length-set p.rows n₁ 0 ∙ w.rows_length;
+        bound_length = w.bound_length;
         total = w.total;
-        arity = λ q. go q (ℕ_discrete q n₁);
-        sums = sum_grow n₁ _ (λ (q : ℕ). get_or p.rows q 0) (λ i l. rows_old i (λ e. omega arith)) rows_new ∙ w.sums;
+        arity = arity;
+        sums = rw more (sum_grow n₁ _ (λ (q : ℕ). get_or p.rows q 0) rows_old rows_new ∙ w.sums);
         bound = w.bound;
       }
     where
-      go : (q : ℕ) → Dec (q ≡ n₁) → get_or new.arities q 0 ≤ arity_limit
-      go q (yes e) = rw (e, arity_new) small
-      go q (no e) = rw (arity_old q e) (w.arity q)
+      past : (q : ℕ) → n₁ ≤ q → Dec (q ≡ n₁) → get_or new.arities q 0 ≤ arity_limit
+      past q l (yes e) = rw (e, get_or-append_seam p.arities (byte_at s (at + 3)) [] 0) small
+      past q l (no e) = rw (get_or_past new.arities q 0 (omega (arith, more, e))) (omega arith)
+
+      arity : (q : ℕ) → get_or new.arities q 0 ≤ arity_limit
+      arity q = ⊎_elim (λ l. rw (arity_old q l) (w.arity q)) (λ l. past q l (ℕ_discrete q n₁)) (cases_lt q n₁)
 
   pub predicate_filled : Filled p cells index → Filled new cells index
-  predicate_filled f = record { cells_length = f.cells_length; index_length = f.index_length; inside = λ q k l h. go q k (ℕ_discrete q n₁) l h }
+  predicate_filled f = record { cells_length = f.cells_length; index_length = f.index_length; inside = λ q k l h. go q k (ℕ_discrete q n₁) (rw more at l) h }
     where
       go : (q k : ℕ) → Dec (q ≡ n₁) → q < n₁ + 1 → k < get_or new.rows q 0 → get_or index (row_limit * q + k) 0 < p.total
       go q k (yes e) l h = let x : k < 0 = rw (e, rows_new) at h in absurd (omega arith)
-      go q k (no e) l h = f.inside q k (omega (arith, e)) (rw (rows_old q e) at h)
+      go q k (no e) l h = let m : q < n₁ = omega (arith, e) in f.inside q k m (rw (rows_old q m) at h)
 
 -- a row
 
-pub rows_few : (p : Progress) → Well p → (q : ℕ) → q < p.rule.predicates → get_or p.rows q 0 ≤ p.total
-rows_few p w q l = rw (← w.sums) (sum_part p.rule.predicates q (λ (i : ℕ). get_or p.rows i 0) l)
+pub rows_few : (p : Progress) → Well p → (q : ℕ) → q < length p.arities → get_or p.rows q 0 ≤ p.total
+rows_few p w q l = rw (← w.sums) (sum_part (length p.arities) q (λ (i : ℕ). get_or p.rows i 0) l)
 
 after_2 : (s : List ℕ) (at : ℕ) (st : Read) → tag_of (tag_at s at) ≡ row_tag
     → after s at st
@@ -143,11 +119,9 @@ unfolding after added placed
 after_2 s at st e = rw e refl
 
 -- the places of a declared predicate
-pub places_is : (t : Tag) (s : List ℕ) (at i : ℕ) (p : Progress) → 0 < (line_of t).up_to → at + 2 + (line_of t).up_to ≡ i → byte_at s i < p.rule.predicates
-    → places_at t s at (arities_of p.rule p.arities) ≡ get_or p.arities (byte_at s i) 0
-unfolding places_at arities_of
-places_is t s at i p u e l =
-    rw (lt-ltb 0 (line_of t).up_to u, places_at, e) (get_or_tab (λ (q : ℕ). get_or p.arities q 0) p.rule.predicates (byte_at s i) 0 l)
+pub places_is : (t : Tag) (s : List ℕ) (at i : ℕ) (p : Progress) → 0 < (line_of t).up_to → at + 2 + (line_of t).up_to ≡ i → places_at t s at p.arities ≡ get_or p.arities (byte_at s i) 0
+unfolding places_at
+places_is t s at i p u e = rw (lt-ltb 0 (line_of t).up_to u, places_at, e) refl
 
 module _ (cells index : List ℕ) (p r n a : ℕ) (f : ℕ → ℕ) where
   -- a row stored before reads the same
@@ -170,8 +144,10 @@ module _ (cells index : List ℕ) (p r n a : ℕ) (f : ℕ → ℕ) where
       let e : get_or (set index (row_limit * p + r) n) (row_limit * p + r) 0 ≡ n = get_or-set_same index (row_limit * p + r) n 0 hi in
       tab_ext a _ _ (λ j l. rw e (sym (get_or_puts_in cells (arity_limit * n) a j f 0 l hc)))
 
-module _ (s : List ℕ) (at group : ℕ) (p : Progress) (w : Well p) (cells index : List ℕ) (f : Filled p cells index) (r : RowReady s at p)
-    (d : byte_at s (at + 3) < p.rule.predicates) where
+module _ (s : List ℕ) (at : ℕ) (p : Progress) (w : Well p) (cells index : List ℕ) (f : Filled p cells index) (r : RowReady s at p) where
+  d : byte_at s (at + 3) < length p.arities
+  d = r.named.declared
+
   abbrev q₂ : ℕ
   q₂ = byte_at s (at + 3)
 
@@ -190,44 +166,44 @@ module _ (s : List ℕ) (at group : ℕ) (p : Progress) (w : Well p) (cells inde
   row_same : get_or rows₂ q₂ 0 ≡ k₂ + 1
   row_same = get_or-set_same p.rows q₂ (k₂ + 1) 0 (omega (arith, w.rows_length, w.predicates))
 
-  keeps : (i : ℕ) → i < p.rule.predicates → (k : ℕ) → k < get_or p.rows i 0
+  keeps : (i : ℕ) → i < length p.arities → (k : ℕ) → k < get_or p.rows i 0
       → row_of (get_or p.arities i 0) (with_cells s at p cells) (with_index s at p index) i k ≡ row_of (get_or p.arities i 0) cells index i k
   keeps i l k h =
       let c = rows_few p w i l in
       same_row cells index q₂ k₂ p.total a₂ (cell_from s (at + 4)) i k (get_or p.arities i 0) (w.arity i)
       (omega (arith, w.total)) (omega (arith, r.count, r.room)) (λ e. rw e at h) (f.inside i k l h)
 
-  tables_row : tables_of p.rule p.arities rows₂ (with_cells s at p cells) (with_index s at p index)
-      ≡ set (tables_of p.rule p.arities p.rows cells index) q₂ (get_or (tables_of p.rule p.arities p.rows cells index) q₂ [] ++ (row_in s at a₂ ∷ []))
+  tables_row : tables_of p.arities rows₂ (with_cells s at p cells) (with_index s at p index)
+      ≡ set (tables_of p.arities p.rows cells index) q₂ (get_or (tables_of p.arities p.rows cells index) q₂ [] ++ (row_in s at a₂ ∷ []))
   unfolding tables_of
   tables_row =
-      tab_set p.rule.predicates q₂ _ (λ (q : ℕ). tab (get_or p.rows q 0) (row_of (get_or p.arities q 0) cells index q)) _ d
-      (rw (get_or_tab (λ (q : ℕ). tab (get_or p.rows q 0) (row_of (get_or p.arities q 0) cells index q)) p.rule.predicates q₂ [] d, row_same)
+      tab_set (length p.arities) q₂ _ (λ (q : ℕ). tab (get_or p.rows q 0) (row_of (get_or p.arities q 0) cells index q)) _ d
+      (rw (get_or_tab (λ (q : ℕ). tab (get_or p.rows q 0) (row_of (get_or p.arities q 0) cells index q)) (length p.arities) q₂ [] d, row_same)
       (sym (tab_grow k₂ _ (row_of a₂ cells index q₂) (row_in s at a₂) (keeps q₂ d)
       (new_row cells index q₂ k₂ p.total a₂ (cell_from s (at + 4)) (omega (arith, f.cells_length, r.room, w.arity q₂)) (omega (arith, f.index_length, w.predicates, r.count, r.room))))))
       (λ i l e. rw (row_other i e) (tab_ext (get_or p.rows i 0) _ _ (keeps i l)))
 
-  pub row_read : tag_of (tag_at s at) ≡ row_tag → group ≡ 2 → read_of (with_row s at group p) (with_cells s at p cells) (with_index s at p index) ≡ after s at (read_of p cells index)
-  unfolding places_of
-  row_read e g =
-      rw (after_2 s at (read_of p cells index) e, places_is row_tag s at (at + 3) p (omega arith) (omega arith) d)
-      (λ i. read_with (g i) (places_of p) (arities_of p.rule p.arities) (tables_row i) (solved_of p.rule) (heads_of p.rule) (body_of p.rule))
+  pub row_read : tag_of (tag_at s at) ≡ row_tag → read_of (with_row s at (in_group 2 p)) (with_cells s at p cells) (with_index s at p index) ≡ after s at (read_of p cells index)
+  row_read e =
+      rw (after_2 s at (read_of p cells index) e, places_is row_tag s at (at + 3) p (omega arith) (omega arith))
+      (λ i. read_with 2 p.places p.arities (tables_row i) p.rule.solved (heads_of p.rule) (body_of p.rule))
 
-  pub row_well : Well (with_row s at group p)
+  pub row_well : Well (with_row s at (in_group 2 p))
   row_well = record {
     predicates = w.predicates;
+    solved = w.solved;
     heads = w.heads;
-    heads_length = w.heads_length;
+    places = w.places;
     items = w.items;
-    items_length = w.items_length;
     rows_length = length-set p.rows q₂ (k₂ + 1) ∙ w.rows_length;
+    bound_length = w.bound_length;
     total = omega (arith, r.room);
     arity = w.arity;
-    sums = sum_set p.rule.predicates q₂ _ (λ (q : ℕ). get_or p.rows q 0) d row_same row_other ∙ ap (λ (i : ℕ). i + 1) w.sums;
+    sums = sum_set (length p.arities) q₂ _ (λ (q : ℕ). get_or p.rows q 0) d row_same row_other ∙ ap (λ (i : ℕ). i + 1) w.sums;
     bound = w.bound;
   }
 
-  inside_row : (i k : ℕ) → i < p.rule.predicates → Dec (row_limit * i + k ≡ row_limit * q₂ + k₂) → k < get_or rows₂ i 0 → get_or (with_index s at p index) (row_limit * i + k) 0 < p.total + 1
+  inside_row : (i k : ℕ) → i < length p.arities → Dec (row_limit * i + k ≡ row_limit * q₂ + k₂) → k < get_or rows₂ i 0 → get_or (with_index s at p index) (row_limit * i + k) 0 < p.total + 1
   inside_row i k l (yes e) h =
       rw (e, get_or-set_same index (row_limit * q₂ + k₂) p.total 0 (omega (arith, f.index_length, w.predicates, r.count, r.room))) (omega arith)
   inside_row i k l (no ne) h =
@@ -240,7 +216,7 @@ module _ (s : List ℕ) (at group : ℕ) (p : Progress) (w : Well p) (cells inde
           rw e (omega (arith, x))
       inner (no e) = rw (row_other i e) at h
 
-  pub row_filled : Filled (with_row s at group p) (with_cells s at p cells) (with_index s at p index)
+  pub row_filled : Filled (with_row s at (in_group 2 p)) (with_cells s at p cells) (with_index s at p index)
   row_filled = record {
     cells_length = length_puts cells (arity_limit * p.total) a₂ (cell_from s (at + 4)) ∙ f.cells_length;
     index_length = length-set index (row_limit * q₂ + k₂) p.total ∙ f.index_length;
@@ -256,50 +232,38 @@ after_3 : (s : List ℕ) (at : ℕ) (st : Read) → tag_of (tag_at s at) ≡ hea
 unfolding after added placed
 after_3 s at st e = rw e refl
 
-module _ (s : List ℕ) (at group : ℕ) (p : Progress) (z : Sizes p) (w : Well p) (cells index : List ℕ) (d : byte_at s (at + 3) < p.rule.predicates) (room : p.rule.many < head_limit) where
+module _ (s : List ℕ) (at : ℕ) (p : Progress) (w : Well p) (cells index : List ℕ) (room : length p.rule.heads < head_limit) where
   abbrev a₃ : ℕ
   a₃ = get_or p.arities (byte_at s (at + 3)) 0
 
-  abbrev n₃ : ℕ
-  n₃ = p.rule.many
+  abbrev new₃ : Progress
+  new₃ = with_head s at (in_group 3 p)
 
-  heads_grow : heads_of (with_head s at group p).rule ≡ heads_of p.rule ++ (head_in s at a₃ ∷ [])
+  heads_grow : heads_of new₃.rule ≡ heads_of p.rule ++ (head_in s at a₃ ∷ [])
   unfolding heads_of
-  heads_grow =
-      grow_min n₃ head_limit _ (head_at p.rule) (head_in s at a₃) room
-      (λ i l. ap head_of (get_or-set_other p.rule.heads n₃ i (head_from s at a₃) no_item (λ e. omega arith)))
-      (sym (ap head_of (get_or-set_same p.rule.heads n₃ (head_from s at a₃) no_item (omega (arith, z.heads))) ∙ head_is s at a₃ (w.arity (byte_at s (at + 3)))))
+  heads_grow = map_append head_of p.rule.heads (head_from s at a₃ ∷ []) ∙ ap (λ (h : Head). heads_of p.rule ++ (h ∷ [])) (head_is s at a₃)
 
-  places_grow : places_of (with_head s at group p) ≡ places_of p ++ (at ∷ [])
-  unfolding places_of
-  places_grow =
-      grow_min n₃ head_limit _ (λ (i : ℕ). get_or p.places i 0) at room
-      (λ i l. get_or-set_other p.places n₃ i at 0 (λ e. omega arith))
-      (sym (get_or-set_same p.places n₃ at 0 (omega (arith, z.places))))
+  pub head_read : tag_of (tag_at s at) ≡ head_tag → read_of new₃ cells index ≡ after s at (read_of p cells index)
+  unfolding tables_of body_of
+  head_read e =
+      rw (after_3 s at (read_of p cells index) e, places_is head_tag s at (at + 3) p (omega arith) (omega arith))
+      (λ i. read_with 3 new₃.places p.arities (tables_of p.arities p.rows cells index) p.rule.solved (heads_grow i) (body_of p.rule))
 
-  pub head_read : tag_of (tag_at s at) ≡ head_tag → group ≡ 3 → read_of (with_head s at group p) cells index ≡ after s at (read_of p cells index)
-  unfolding arities_of tables_of solved_of body_of
-  head_read e g =
-      rw (after_3 s at (read_of p cells index) e, places_is head_tag s at (at + 3) p (omega arith) (omega arith) d)
-      (λ i. read_with (g i) (places_grow i) (arities_of p.rule p.arities) (tables_of p.rule p.arities p.rows cells index) (solved_of p.rule) (heads_grow i) (body_of p.rule))
-
-  pub head_well : Well (with_head s at group p)
+  pub head_well : Well new₃
   unfolding body_of
   head_well = record {
     predicates = w.predicates;
-    heads = omega arith;
-    heads_length = length-set p.rule.heads n₃ (head_from s at a₃) ∙ w.heads_length;
+    solved = w.solved;
+    heads = omega (arith, length_push p.rule.heads (head_from s at a₃));
+    places = length_push p.places at ∙ ap (λ (i : ℕ). i + 1) w.places ∙ sym (length_push p.rule.heads (head_from s at a₃));
     items = w.items;
-    items_length = w.items_length;
     rows_length = w.rows_length;
+    bound_length = w.bound_length;
     total = w.total;
     arity = w.arity;
     sums = w.sums;
     bound = w.bound;
   }
-
-  pub head_filled : Filled p cells index → Filled (with_head s at group p) cells index
-  head_filled f = record { cells_length = f.cells_length; index_length = f.index_length; inside = f.inside }
 
 -- a body item
 
@@ -316,50 +280,41 @@ after_rest : (k : Comparison) (s : List ℕ) (at : ℕ) (st : Read) → tag_of (
 unfolding after added placed
 after_rest k s at st e = rw e refl
 
-module _ (group : ℕ) (x : ItemR) (p : Progress) (b : List Bool) (z : Sizes p) (w : Well p) (room : p.rule.size < item_limit) (cells index : List ℕ) where
-  abbrev n₄ : ℕ
-  n₄ = p.rule.size
+module _ (x : ItemR) (p : Progress) (b : List Bool) (w : Well p) (room : length p.rule.items < item_limit) (cells index : List ℕ) where
+  abbrev new₄ : Progress
+  new₄ = with_item x (in_group 4 p) b
 
-  body_grow : body_of (with_item group x p b).rule ≡ body_of p.rule ++ (item_of x ∷ [])
+  body_grow : body_of new₄.rule ≡ body_of p.rule ++ (item_of x ∷ [])
   unfolding body_of
-  body_grow =
-      grow_min n₄ item_limit _ (item_at p.rule) (item_of x) room
-      (λ i l. ap item_of (get_or-set_other p.rule.items n₄ i x no_item (λ e. omega arith)))
-      (sym (ap item_of (get_or-set_same p.rule.items n₄ x no_item (omega (arith, z.items)))))
+  body_grow = map_append item_of p.rule.items (x ∷ [])
 
-  item_read : (st : Read) (y : Item) → y ≡ item_of x → group ≡ 4
-      → st ≡ read_with 4 (places_of p) (arities_of p.rule p.arities) (tables_of p.rule p.arities p.rows cells index) (solved_of p.rule) (heads_of p.rule) (body_of p.rule ++ (y ∷ []))
-      → read_of (with_item group x p b) cells index ≡ st
-  unfolding places_of arities_of tables_of solved_of heads_of
-  item_read st y q g e =
-      rw (e, q)
-      (λ i. read_with (g i) (places_of p) (arities_of p.rule p.arities) (tables_of p.rule p.arities p.rows cells index) (solved_of p.rule) (heads_of p.rule) (body_grow i))
+  pub item_read : (y : Item) → item_of x ≡ y
+      → read_of new₄ cells index ≡ read_with 4 p.places p.arities (tables_of p.arities p.rows cells index) p.rule.solved (heads_of p.rule) (body_of p.rule ++ (y ∷ []))
+  unfolding tables_of heads_of
+  item_read y q = λ i. read_with 4 p.places p.arities (tables_of p.arities p.rows cells index) p.rule.solved (heads_of p.rule) ((body_grow ∙ ap (λ (z : Item). body_of p.rule ++ (z ∷ [])) q) i)
 
-  pub item_well : Bound b (body_of p.rule ++ (item_of x ∷ [])) → Well (with_item group x p b)
-  item_well h = record {
+  pub item_well : length b ≡ length p.bound → Bound b (body_of p.rule ++ (item_of x ∷ [])) → Well new₄
+  item_well l h = record {
     predicates = w.predicates;
+    solved = w.solved;
     heads = w.heads;
-    heads_length = w.heads_length;
-    items = omega arith;
-    items_length = length-set p.rule.items n₄ x ∙ w.items_length;
+    places = w.places;
+    items = omega (arith, length_push p.rule.items x);
     rows_length = w.rows_length;
+    bound_length = l ∙ w.bound_length;
     total = w.total;
     arity = w.arity;
     sums = w.sums;
     bound = λ v. h v ∙ ap (any (holds v)) (sym body_grow);
   }
 
-  pub item_filled : Filled p cells index → Filled (with_item group x p b) cells index
-  item_filled f = record { cells_length = f.cells_length; index_length = f.index_length; inside = f.inside }
+module _ (s : List ℕ) (at : ℕ) (p : Progress) (w : Well p) (room : length p.rule.items < item_limit) (cells index : List ℕ) where
+  pub comparison_read : (k : Comparison) → tag_of (tag_at s at) ≡ comparison_tag k
+      → read_of (with_comparison k s at (in_group 4 p)) cells index ≡ after s at (read_of p cells index)
+  comparison_read k e =
+      item_read (comparison_from k s at) p p.bound w room cells index (comparison_in k s at) (comparison_is k s at) ∙ sym (after_rest k s at (read_of p cells index) e)
 
-module _ (s : List ℕ) (at group : ℕ) (p : Progress) (z : Sizes p) (w : Well p) (room : p.rule.size < item_limit) (cells index : List ℕ) where
-  pub comparison_read : (k : Comparison) → tag_of (tag_at s at) ≡ comparison_tag k → group ≡ 4 → read_of (with_comparison k s at group p) cells index ≡ after s at (read_of p cells index)
-  comparison_read k e g =
-      item_read group (comparison_from k s at) p p.bound z w room cells index _ (comparison_in k s at) (sym (comparison_is k s at)) g (after_rest k s at (read_of p cells index) e)
-
-  pub literal_read : (b : List Bool) → byte_at s (at + 4) < p.rule.predicates → tag_of (tag_at s at) ≡ literal_tag → group ≡ 4
-      → read_of (with_item group (literal_of s at p) p b) cells index ≡ after s at (read_of p cells index)
-  literal_read b d e g =
-      item_read group (literal_of s at p) p b z w room cells index _
-      (literal_in s at (get_or p.arities (byte_at s (at + 4)) 0)) (sym (literal_is s at (get_or p.arities (byte_at s (at + 4)) 0) (w.arity (byte_at s (at + 4))))) g
-      (after_4 s at (read_of p cells index) e ∙ rw (places_is literal_tag s at (at + 4) p (omega arith) (omega arith) d) refl)
+  pub literal_read : tag_of (tag_at s at) ≡ literal_tag → read_of (with_literal s at (in_group 4 p)) cells index ≡ after s at (read_of p cells index)
+  literal_read e =
+      item_read (literal_of s at p) p (marked_by (literal_of s at p) p.bound) w room cells index (literal_in s at (get_or p.arities (byte_at s (at + 4)) 0)) (literal_is s at (get_or p.arities (byte_at s (at + 4)) 0))
+      ∙ sym (after_4 s at (read_of p cells index) e ∙ rw (places_is literal_tag s at (at + 4) p (omega arith) (omega arith)) refl)

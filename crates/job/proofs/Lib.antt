@@ -1,6 +1,5 @@
 -- Laws, stated over the code's values, which the proofs of the functions cite.
 pub mod Puts
-pub mod Tags
 pub mod TermLaws
 pub mod Bounds
 pub mod Judging

@@ -4,23 +4,21 @@ use mathlib.Core.Path.{◌≡◌, refl, sym, ap, ◌∙◌}
 use mathlib.Core.Option.{none, some}
 use mathlib.Core.List.{List, [], ◌∷◌}
 use native.Mathlib.Omega.{arith}
+use Rattle.std.specs.Prelude.{Result, Ok, Err}
 use borrow.Author.Tests.{lt-ltb, le-ltb}
 use lib.ListN.{length, get_or, replicate}
 use Rattle.meaning.specs.Job.{job_limit, Job}
 use Rattle.meaning.specs.Reading.{length_at, refusals, first, Reading, refused, accepted, reading}
 use Rattle.rule.specs.Limits.{cell_limit, index_limit}
 use Rattle.job.specs.Progress.{nothing_yet, read_of}
-use Rattle.job.specs.Fault.{number_of, judged_of, Judges}
+use Rattle.job.specs.Fault.{number_of, Judges}
 use Rattle.job.specs.Grow.{Stepped}
 use Rattle.job.specs.Answer.{verdict_of, reading_of, made_of, ended_of, Store, store, store_from, stored, Holds}
 use Rattle.job.specs.declared.progress.Progress.{Progress}
 use Rattle.job.specs.declared.reading.ReadJob.{ReadJob}
 use Rattle.job.specs.declared.fault.Fault.{Fault}
+use Rattle.job.specs.declared.fault.Refusal.{Refusal}
 use Rattle.job.specs.declared.fault.Fault.TheVariants.{Long, Cut, Tag, Group, Limit, Undeclared, Length, Range, Unbound, Unsafe, Empty}
-use Rattle.job.specs.declared.fault.Judged.{Judged}
-use Rattle.job.specs.declared.fault.Judged.TheVariants.{Fine, Faulty}
-use Rattle.job.specs.declared.fault.Verdict.{Verdict}
-use Rattle.job.specs.declared.fault.Verdict.TheVariants.{Accepted, Refused}
 
 -- what is left to store from `at` on gives what the whole job does
 pub record Storing (s : List ℕ) (at : ℕ) (p : Progress) (cells index : List ℕ) : Type 0 where
@@ -37,13 +35,13 @@ unfolding stored
 stores_long s p e h = rw (e, lt-ltb job_limit (length s) h, stored) refl
 
 module _ (s : List ℕ) (at : ℕ) (p : Progress) (cells index : List ℕ) (g : Storing s at p cells index) where
-  pub stores_on : (r : Judged) (p' : Progress) (cells' index' : List ℕ) (n : ℕ) → at < length s → r ≡ Fine → Judges r s at p 0 → Stepped s at p p' cells index cells' index' → n ≡ length_at s at
+  pub stores_on : (p' : Progress) (cells' index' : List ℕ) (n : ℕ) → at < length s → Judges (Ok tt) s at p 0 → Stepped s at p p' cells index cells' index' → n ≡ length_at s at
       → Storing s (at + 3 + n) p' cells' index'
   unfolding store_from Judges
-  stores_on r p' cells' index' n l e j q k = rw k (go g.fuel g.enough g.same)
+  stores_on p' cells' index' n l j q k = rw k (go g.fuel g.enough g.same)
     where
       f : none ≡ first (refusals s at (read_of p cells index))
-      f = ap judged_of (sym e) ∙ j cells index
+      f = j cells index
 
       go : (m : ℕ) → length s ≤ m + at → store_from m s at p cells index ≡ stored s → Storing s (at + 3 + length_at s at) p' cells' index'
       go zero h x = absurd (omega arith)
@@ -54,12 +52,12 @@ module _ (s : List ℕ) (at : ℕ) (p : Progress) (cells index : List ℕ) (g : 
             same = rw (q.record_is, q.cells_are, q.index_is) (sym (rw (lt-ltb at (length s) l, store_from, ← f) refl) ∙ x);
           }
 
-  pub stores_stop : (r : Judged) (b : Fault) → at < length s → r ≡ Faulty b → Judges r s at p 0 → store p cells index ≡ stored s
+  pub stores_stop : (b : Fault) → at < length s → Judges (Err b) s at p 0 → store p cells index ≡ stored s
   unfolding store_from Judges
-  stores_stop r b l e j = go g.fuel g.enough g.same
+  stores_stop b l j = go g.fuel g.enough g.same
     where
       f : some (number_of b) ≡ first (refusals s at (read_of p cells index))
-      f = ap judged_of (sym e) ∙ j cells index
+      f = j cells index
 
       go : (m : ℕ) → length s ≤ m + at → store_from m s at p cells index ≡ stored s → store p cells index ≡ stored s
       go zero h x = absurd (omega arith)
@@ -73,7 +71,7 @@ module _ (s : List ℕ) (at : ℕ) (p : Progress) (cells index : List ℕ) (g : 
       go zero x = x
       go (suc m) x = sym (rw (le-ltb at (length s) l, store_from) refl) ∙ x
 
-pub holds : (s : List ℕ) (v : Verdict) (p : Progress) (cells index : List ℕ) → store p cells index ≡ stored s → Holds s (ended_of v p) cells index
+pub holds : (s : List ℕ) (v : Result (Unit {0}) Refusal) (p : Progress) (cells index : List ℕ) → store p cells index ≡ stored s → Holds s (ended_of v p) cells index
 holds s v p cells index q =
     record { made = ap (λ (x : Store). made_of x.progress) q; cells_are = ap (λ (x : Store). x.cells) q; index_is = ap (λ (x : Store). x.index) q }
 
@@ -96,14 +94,14 @@ fault_back Unbound = refl
 fault_back Unsafe = refl
 fault_back Empty = refl
 
-back : Reading → Verdict
-back (refused n place) = Refused (fault_of n) place
-back (accepted J) = Accepted
+back : Reading → Result (Unit {0}) Refusal
+back (refused n place) = Err (record { fault = fault_of n; place = place })
+back (accepted J) = Ok tt
 
-verdict_back : (v : Verdict) (J : Job) → back (verdict_of v J) ≡ v
+verdict_back : (v : Result (Unit {0}) Refusal) (J : Job) → back (verdict_of v J) ≡ v
 unfolding back verdict_of
-verdict_back Accepted J = refl
-verdict_back (Refused f place) J = rw (fault_back f)
+verdict_back (Ok u) J = refl
+verdict_back (Err r) J = rw (fault_back r.fault)
 
 pub one_answer : (s : List ℕ) (r r' : ReadJob) (cells index cells' index' : List ℕ)
     → reading_of r cells index ≡ reading s → Holds s r cells index → reading_of r' cells' index' ≡ reading s → Holds s r' cells' index'

@@ -1,13 +1,10 @@
--- Laws of `sum`, and of a table's first entries under a limit.
-use Prim.Native.Nat.{ℕ, zero, suc, ◌+◌, ◌<◌, ◌≤◌, min}
+-- Laws of `sum`.
+use Prim.Native.Nat.{ℕ, zero, suc, ◌+◌, ◌<◌, ◌≤◌}
 use mathlib.Core.Path.{◌≡◌, refl}
 use mathlib.Core.Logic.{◌⊎◌, inl, inr}
-use mathlib.Core.List.{[], ◌∷◌, ◌++◌}
 use native.Mathlib.Omega.{arith}
-use native.Mathlib.Nat.{eq-or-lt_of_le, min-eq_left}
+use native.Mathlib.Nat.{eq-or-lt_of_le}
 use native.Mathlib.Numerals.{add-one}
-use Rattle.meaning.specs.Basics.{tab}
-use Rattle.meaning.proofs.Tab.{tab_grow}
 use Rattle.job.specs.Progress.{sum}
 
 pub sum_ext : (n : ℕ) (f g : ℕ → ℕ) → ((i : ℕ) → i < n → f i ≡ g i) → sum n f ≡ sum n g
@@ -44,10 +41,3 @@ sum_part (suc n) q f l = go (sum_part n q f) (eq-or-lt_of_le {n = q} {m = n} (om
     go : (q < n → f q ≤ sum n f) → (q ≡ n) ⊎ (q < n) → f q ≤ sum n f + f n
     go r (inl k) = rw k (omega arith)
     go r (inr k) = let a = r k in omega arith
-
--- one more under a limit
-pub grow_min : {A : Type 0} (n lim : ℕ) (f g : ℕ → A) (a : A) → n < lim → ((i : ℕ) → i < n → f i ≡ g i) → a ≡ f n → tab (min (n + 1) lim) f ≡ tab (min n lim) g ++ (a ∷ [])
-grow_min n lim f g a l h e =
-    let p : min (n + 1) lim ≡ n + 1 = min-eq_left (omega arith) in
-    let q : min n lim ≡ n = min-eq_left (omega arith) in
-    rw (p, q) (tab_grow n f g a h e)

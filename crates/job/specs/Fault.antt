@@ -1,13 +1,13 @@
 -- The document's number of each fault, and what a judgement says.
-use Rattle.std.specs.Prelude.{ℕ, ◌+◌, ◌<◌, ◌≡◌, List, drop}
+use Rattle.std.specs.Prelude.{ℕ, ◌≡◌, List, drop, Result, Ok, Err, MatchResult}
 use Rattle.std.proofs.Math.Option.{Option, none, some}
-use Rattle.meaning.specs.Reading.{tag_at, length_at, refusals, first}
-use Rattle.job.specs.Progress.{farthest, read_of}
+use Rattle.meaning.specs.Reading.{Tag as TagOf, tag_at, length_at, tag_of, refusals, first}
+use Rattle.job.specs.Progress.{read_of}
+use Rattle.job.specs.Table.{meant}
 use Rattle.job.specs.declared.progress.Progress.{Progress}
+use Rattle.job.specs.declared.table.Tag.{Tag as TagR}
 use Rattle.job.specs.declared.fault.Fault.{Fault}
 use Rattle.job.specs.declared.fault.Fault.TheVariants.{Long, Cut, Tag, Group, Limit, Undeclared, Length, Range, Unbound, Unsafe, Empty}
-use Rattle.job.specs.declared.fault.Judged.{Judged}
-use Rattle.job.specs.declared.fault.Judged.TheVariants.{Fine, Faulty}
 
 abbrev pub number_of : Fault → ℕ
 number_of Long = 1
@@ -22,16 +22,19 @@ number_of Unbound = 9
 number_of Unsafe = 10
 number_of Empty = 11
 
-abbrev pub judged_of : Judged → Option ℕ
-judged_of Fine = none
-judged_of (Faulty f) = some (number_of f)
+abbrev pub judged_of : Result (Unit {0}) Fault → Option ℕ
+judged_of (Ok u) = none
+judged_of (Err f) = some (number_of f)
 
 -- of the field's refusals, but for the first k, r is the first: whatever the cells
-unfoldable pub Judges : Judged → List ℕ → ℕ → Progress → ℕ → Type 0
+unfoldable pub Judges : Result (Unit {0}) Fault → List ℕ → ℕ → Progress → ℕ → Type 0
 Judges r s at p k = (cells index : List ℕ) → judged_of r ≡ first (drop k (refusals s at (read_of p cells index)))
 
+-- the field's tag where it has no fault, or its first
+abbrev pub Passes : Result TagR Fault → List ℕ → ℕ → Progress → Type 0
+Passes r s at p = MatchResult r (λ t. (meant t ≡ tag_of (tag_at s at)) × Judges (Ok tt) s at p 0) (λ f. Judges (Err f) s at p 0)
+
 -- the tag and the length of the field at `at`
-pub record FieldAt (s : List ℕ) (at tag length : ℕ) : Type 0 where
-  pub tag_is : tag ≡ tag_at s at
+pub record FieldAt (s : List ℕ) (at : ℕ) (t : TagOf) (length : ℕ) : Type 0 where
+  pub tag_is : t ≡ tag_of (tag_at s at)
   pub length_is : length ≡ length_at s at
-  pub near : at + 128 < farthest

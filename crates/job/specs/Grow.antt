@@ -1,48 +1,44 @@
 -- The record and the arrays with one field more.
-use Rattle.std.specs.Prelude.{ℕ, ◌+◌, ◌*◌, ◌<◌, ◌≤◌, ◌≡◌, Bool, false, cond, List, length, get_or, set, eqb}
+use Rattle.std.specs.Prelude.{ℕ, ◌+◌, ◌*◌, ◌<◌, ◌≤◌, ◌≡◌, Bool, false, List, [], ◌∷◌, ◌++◌, length, get_or, set, eqb}
 use Rattle.meaning.specs.Job.{predicate_limit, row_limit, arity_limit, Comparison}
 use Rattle.meaning.specs.Reading.{byte_at, Tag, predicate_tag, row_tag, head_tag, literal_tag, comparison_tag, tag_at, length_at, tag_of, line_of, predicate_at, out_of_range, after}
 use Rattle.rule.specs.declared.Item.{Item}
-use Rattle.rule.specs.Rule.{terms_of}
 use Rattle.job.specs.Puts.{puts}
-use Rattle.job.specs.Bound.{marked}
-use Rattle.job.specs.Progress.{farthest, cell_from, head_from, literal_from, comparison_from, count_of, read_of, Well, Filled}
-use Rattle.job.specs.Table.{last_tag, places_in}
+use Rattle.job.specs.Bound.{marked_by}
+use Rattle.job.specs.Progress.{cell_from, head_from, literal_from, comparison_from, count_of, read_of, Well, Filled}
+use Rattle.job.specs.Table.{places_in}
 use Rattle.job.specs.declared.progress.Progress.{Progress}
 
-abbrev pub with_predicate : List ℕ → ℕ → ℕ → Progress → Progress
-with_predicate s at group p = record {
-  group = group;
+-- in another group
+abbrev pub in_group : ℕ → Progress → Progress
+in_group group p = record { group = group; places = p.places; bound = p.bound; rule = p.rule; arities = p.arities; rows = p.rows; total = p.total }
+
+abbrev pub with_predicate : List ℕ → ℕ → Progress → Progress
+with_predicate s at p = record {
+  group = p.group;
   places = p.places;
   bound = p.bound;
-  rule = record {
-    items = p.rule.items;
-    size = p.rule.size;
-    heads = p.rule.heads;
-    many = p.rule.many;
-    solved = set p.rule.solved p.rule.predicates (eqb (byte_at s (at + 4)) 1);
-    predicates = p.rule.predicates + 1;
-  };
-  arities = set p.arities p.rule.predicates (byte_at s (at + 3));
-  rows = set p.rows p.rule.predicates 0;
+  rule = record { items = p.rule.items; heads = p.rule.heads; solved = p.rule.solved ++ (eqb (byte_at s (at + 4)) 1 ∷ []) };
+  arities = p.arities ++ (byte_at s (at + 3) ∷ []);
+  rows = set p.rows (length p.arities) 0;
   total = p.total;
 }
 
--- the field at `at` names at i a predicate that is declared
-pub record Named (s : List ℕ) (at i : ℕ) (p : Progress) : Type 0 where
-  pub near : at + 128 < farthest
-  pub declared : byte_at s i < predicate_limit
+-- the byte at i names a predicate that is declared
+pub record Named (s : List ℕ) (i : ℕ) (p : Progress) : Type 0 where
+  pub declared : byte_at s i < length p.arities
   pub arity : get_or p.arities (byte_at s i) 0 ≤ arity_limit
 
 -- and there is room for a row
 pub record RowReady (s : List ℕ) (at : ℕ) (p : Progress) : Type 0 where
-  pub named : Named s at (at + 3) p
+  pub named : Named s (at + 3) p
+  pub predicates : length p.arities ≤ predicate_limit
   pub room : p.total < row_limit
   pub count : get_or p.rows (byte_at s (at + 3)) 0 ≤ p.total
 
-abbrev pub with_row : List ℕ → ℕ → ℕ → Progress → Progress
-with_row s at group p = record {
-  group = group;
+abbrev pub with_row : List ℕ → ℕ → Progress → Progress
+with_row s at p = record {
+  group = p.group;
   places = p.places;
   bound = p.bound;
   rule = p.rule;
@@ -57,42 +53,32 @@ with_cells s at p cells = puts cells (arity_limit * p.total) (get_or p.arities (
 abbrev pub with_index : List ℕ → ℕ → Progress → List ℕ → List ℕ
 with_index s at p index = set index (row_limit * byte_at s (at + 3) + get_or p.rows (byte_at s (at + 3)) 0) p.total
 
-pub record RowAdded (s : List ℕ) (at group : ℕ) (p r : Progress) (cells index cells' index' : List ℕ) : Type 0 where
-  pub record_is : r ≡ with_row s at group p
+pub record RowAdded (s : List ℕ) (at : ℕ) (p r : Progress) (cells index cells' index' : List ℕ) : Type 0 where
+  pub record_is : r ≡ with_row s at p
   pub cells_are : cells' ≡ with_cells s at p cells
   pub index_is : index' ≡ with_index s at p index
 
-abbrev pub with_head : List ℕ → ℕ → ℕ → Progress → Progress
-with_head s at group p = record {
-  group = group;
-  places = set p.places p.rule.many at;
+abbrev pub with_head : List ℕ → ℕ → Progress → Progress
+with_head s at p = record {
+  group = p.group;
+  places = p.places ++ (at ∷ []);
   bound = p.bound;
   rule = record {
     items = p.rule.items;
-    size = p.rule.size;
-    heads = set p.rule.heads p.rule.many (head_from s at (get_or p.arities (byte_at s (at + 3)) 0));
-    many = p.rule.many + 1;
+    heads = p.rule.heads ++ (head_from s at (get_or p.arities (byte_at s (at + 3)) 0) ∷ []);
     solved = p.rule.solved;
-    predicates = p.rule.predicates;
   };
   arities = p.arities;
   rows = p.rows;
   total = p.total;
 }
 
-abbrev pub with_item : ℕ → Item → Progress → List Bool → Progress
-with_item group x p bound = record {
-  group = group;
+abbrev pub with_item : Item → Progress → List Bool → Progress
+with_item x p bound = record {
+  group = p.group;
   places = p.places;
   bound = bound;
-  rule = record {
-    items = set p.rule.items p.rule.size x;
-    size = p.rule.size + 1;
-    heads = p.rule.heads;
-    many = p.rule.many;
-    solved = p.rule.solved;
-    predicates = p.rule.predicates;
-  };
+  rule = record { items = p.rule.items ++ (x ∷ []); heads = p.rule.heads; solved = p.rule.solved };
   arities = p.arities;
   rows = p.rows;
   total = p.total;
@@ -101,21 +87,20 @@ with_item group x p bound = record {
 abbrev pub literal_of : List ℕ → ℕ → Progress → Item
 literal_of s at p = literal_from s at (get_or p.arities (byte_at s (at + 4)) 0)
 
-unfoldable pub with_literal : List ℕ → ℕ → ℕ → Progress → Progress
-with_literal s at group p =
-    with_item group (literal_of s at p) p (cond (eqb (literal_of s at p).kind 0) (marked p.bound (terms_of (literal_of s at p))) p.bound)
+abbrev pub with_literal : List ℕ → ℕ → Progress → Progress
+with_literal s at p = with_item (literal_of s at p) p (marked_by (literal_of s at p) p.bound)
 
-abbrev pub with_comparison : Comparison → List ℕ → ℕ → ℕ → Progress → Progress
-with_comparison k s at group p = with_item group (comparison_from k s at) p p.bound
+abbrev pub with_comparison : Comparison → List ℕ → ℕ → Progress → Progress
+with_comparison k s at p = with_item (comparison_from k s at) p p.bound
 
 -- the record and the arrays after the field at `at`, by its tag
 
 unfoldable pub next_record : Tag → List ℕ → ℕ → Progress → Progress
-next_record predicate_tag s at p = with_predicate s at 1 p
-next_record row_tag s at p = with_row s at 2 p
-next_record head_tag s at p = with_head s at 3 p
-next_record literal_tag s at p = with_literal s at 4 p
-next_record (comparison_tag k) s at p = with_comparison k s at 4 p
+next_record predicate_tag s at p = with_predicate s at (in_group 1 p)
+next_record row_tag s at p = with_row s at (in_group 2 p)
+next_record head_tag s at p = with_head s at (in_group 3 p)
+next_record literal_tag s at p = with_literal s at (in_group 4 p)
+next_record (comparison_tag k) s at p = with_comparison k s at (in_group 4 p)
 
 unfoldable pub next_cells : Tag → List ℕ → ℕ → Progress → List ℕ → List ℕ
 next_cells predicate_tag s at p cells = cells
@@ -134,14 +119,12 @@ next_index (comparison_tag k) s at p index = index
 -- what the absence of a fault says of the field at `at`
 pub record Sound (s : List ℕ) (at : ℕ) (p : Progress) : Type 0 where
   pub fits : at + 3 + length_at s at ≤ length s
-  pub some : 1 ≤ tag_at s at
-  pub known : tag_at s at ≤ last_tag
   pub limit : count_of (tag_of (tag_at s at)) p < (line_of (tag_of (tag_at s at))).limit
-  pub declared : 0 < (line_of (tag_of (tag_at s at))).up_to → predicate_at (tag_of (tag_at s at)) s at < p.rule.predicates
-  pub range : out_of_range (tag_of (tag_at s at)) s at (places_in (tag_at s at) s at p) ≡ false
+  pub declared : 0 < (line_of (tag_of (tag_at s at))).up_to → predicate_at (tag_of (tag_at s at)) s at < length p.arities
+  pub range : out_of_range (tag_of (tag_at s at)) s at (places_in (tag_of (tag_at s at)) s at p) ≡ false
 
-pub record Ready (s : List ℕ) (at : ℕ) (p : Progress) : Type 0 where
-  pub near : at + 128 < farthest
+pub record Ready (s : List ℕ) (at : ℕ) (t : Tag) (p : Progress) : Type 0 where
+  pub tag_is : t ≡ tag_of (tag_at s at)
   pub well : Well p
   pub sound : Sound s at p
 

@@ -1,20 +1,29 @@
 -- The table by tag, and what it says of a field.
-use Rattle.std.specs.Prelude.{ℕ, ◌+◌, ◌*◌, ◌≤◌, ◌≡◌, Bool, true, false, ◌&&◌, List, eqb, ltb, leb}
-use Rattle.meaning.specs.Job.{arity_limit, Comparison, less_than, before}
-use Rattle.meaning.specs.Reading.{Line as LineOf, tag_of, line_of, predicate_at, places_at}
-use Rattle.job.specs.Progress.{arities_of}
+use Rattle.std.specs.Prelude.{ℕ, ◌+◌, ◌*◌, ◌≤◌, ◌≡◌, Bool, true, false, ◌&&◌, ◌||◌, List, length, ltb, leb, Result, Ok, Err, MatchResult}
+use Rattle.meaning.specs.Job.{arity_limit}
+use Rattle.meaning.specs.Reading.{Tag, predicate_tag, row_tag, head_tag, literal_tag, comparison_tag, tags, Line as LineOf, tag_of, line_of, predicate_at, places_at}
+use Rattle.rule.specs.Rule.{comparison_of}
+use Rattle.job.specs.declared.table.Tag.{Tag as TagR}
+use Rattle.job.specs.declared.table.Tag.TheVariants.{Predicate, Row, Head, Literal, Comparison}
 use Rattle.job.specs.declared.table.Line.{Line}
 use Rattle.job.specs.declared.progress.Progress.{Progress}
-use Rattle.job.specs.declared.judge.Places.{Places}
-use Rattle.job.specs.declared.judge.Places.TheVariants.{Of, Undeclared}
+use Rattle.job.specs.declared.fault.Fault.{Fault}
+use Rattle.job.specs.declared.fault.Fault.TheVariants.{Tag as NoTag, Undeclared}
 
--- the tags are 1 to this
-abbrev pub last_tag : ℕ
-last_tag = 6
+-- the meaning's tag
+abbrev pub meant : TagR → Tag
+meant Predicate = predicate_tag
+meant Row = row_tag
+meant Head = head_tag
+meant Literal = literal_tag
+meant (Comparison k) = comparison_tag (comparison_of k)
 
--- the comparison that a tag past the literal's stands for
-unfoldable pub comparison_at : ℕ → Comparison
-comparison_at tag = elim (eqb tag 5) [ true ↦ less_than | false ↦ before ]
+-- the number is that of no tag
+abbrev pub no_tag : ℕ → Bool
+no_tag n = ltb n 1 || ltb (length tags) n
+
+abbrev pub Decodes : ℕ → Result TagR Fault → Type 0
+Decodes n r = MatchResult r (λ t. (no_tag n ≡ false) × (meant t ≡ tag_of n)) (λ f. (no_tag n ≡ true) × (f ≡ NoTag))
 
 -- the code's line stands for the meaning's
 pub record LineIs (r : Line) (l : LineOf) : Type 0 where
@@ -25,17 +34,17 @@ pub record LineIs (r : Line) (l : LineOf) : Type 0 where
   pub each : r.each ≡ l.each
 
 -- the exact length of a field whose predicate has n places
-abbrev pub exact_of : ℕ → ℕ → ℕ
-exact_of tag n = (line_of (tag_of tag)).smallest + (line_of (tag_of tag)).each * n
+abbrev pub exact_of : Tag → ℕ → ℕ
+exact_of t n = (line_of t).smallest + (line_of t).each * n
 
 -- the places of the field's predicate
-abbrev pub places_in : ℕ → List ℕ → ℕ → Progress → ℕ
-places_in tag s at p = places_at (tag_of tag) s at (arities_of p.rule p.arities)
+abbrev pub places_in : Tag → List ℕ → ℕ → Progress → ℕ
+places_in t s at p = places_at t s at p.arities
 
 -- the field names a predicate that is not declared
-unfoldable pub undeclared : ℕ → List ℕ → ℕ → Progress → Bool
-undeclared tag s at p = ltb 0 (line_of (tag_of tag)).up_to && leb p.rule.predicates (predicate_at (tag_of tag) s at)
+unfoldable pub undeclared : Tag → List ℕ → ℕ → Progress → Bool
+undeclared t s at p = ltb 0 (line_of t).up_to && leb (length p.arities) (predicate_at t s at)
 
-unfoldable pub PlacesAre : Places → ℕ → List ℕ → ℕ → Progress → Type 0
-PlacesAre (Of n) tag s at p = (undeclared tag s at p ≡ false) × (n ≡ places_in tag s at p) × (n ≤ arity_limit)
-PlacesAre Undeclared tag s at p = undeclared tag s at p ≡ true
+unfoldable pub PlacesAre : Result ℕ Fault → Tag → List ℕ → ℕ → Progress → Type 0
+PlacesAre (Ok n) t s at p = (undeclared t s at p ≡ false) × (n ≡ places_in t s at p) × (n ≤ arity_limit)
+PlacesAre (Err f) t s at p = (f ≡ Undeclared) × (undeclared t s at p ≡ true)

@@ -1,34 +1,28 @@
-// What has been read, with one field more that has no fault.
-ghost use Rattle.std.specs.Prelude.{◌≡◌, ◌≢◌, List, set, ℕ, ◌+◌, ◌*◌, ◌≤◌, ◌<◌};
-ghost use Rattle.meaning.specs.Job.{arity_limit, predicate_limit, row_limit, head_limit, item_limit};
-ghost use Rattle.meaning.specs.Reading.{tag_at};
+// What has been read, with one field more that has no fault: the record is changed in place, since it is large.
+ghost use Rattle.std.specs.Prelude.{◌≡◌, ◌+◌, ◌≤◌, ◌<◌, length};
+ghost use Rattle.meaning.specs.Job.{arity_limit, predicate_limit, head_limit, item_limit};
 ghost use Rattle.job.specs.Puts.{puts};
 ghost use Rattle.rule.specs.Limits.{cell_limit};
+ghost use Rattle.rule.specs.Rule.{comparison_of};
 ghost use Rattle.job.specs.Progress.{farthest, cell_from, Filled};
-ghost use Rattle.job.specs.Table.{comparison_at};
-ghost use Rattle.job.specs.Grow.{with_predicate, with_head, with_item, with_literal, with_comparison, Named, Ready, Stepped};
+ghost use Rattle.job.specs.Table.{meant};
+ghost use Rattle.job.specs.Grow.{with_predicate, with_head, with_literal, with_comparison, Named, RowReady, RowAdded, Ready, Stepped};
 
-use crate::bound::mark_terms;
-use crate::bytes::{byte, four};
+use crate::bound::mark;
+use crate::bytes::{Start, four};
 use crate::items::{comparison_in, head_in, literal_in};
 use crate::progress::Progress;
-use crate::table::{HEAD, LITERAL, PREDICATE, line_of};
-use rule::{ARITY_LIMIT, CELL_LIMIT, INDEX_LIMIT, Item, POSITIVE, ROW_LIMIT};
+use crate::table::Tag;
+use rule::{ARITY_LIMIT, CELL_LIMIT, Comparison, INDEX_LIMIT, ROW_LIMIT};
 
-fn grow_predicate(bytes: &[u8], at: usize, group: usize, p: Progress) -> Progress
-    requires { (at + 128 < farthest) × (p.rule.predicates < predicate_limit) }
-    ensures { result ≡ with_predicate bytes.now at group p }
+fn grow_predicate(start: Start, p: &mut Progress)
+    requires { (length p.old.arities < predicate_limit) × (length p.old.rule.solved < predicate_limit) }
+    ensures { p.new ≡ with_predicate start.entry.bytes.now start.entry.at p.old }
 {
-    let n = p.rule.predicates;
-    let mut rule = p.rule;
-    rule.solved[n] = byte(bytes, at + 4) == 1;
-    rule.predicates = n + 1;
-    let mut r = p;
-    r.group = group;
-    r.rule = rule;
-    r.arities[n] = byte(bytes, at + 3);
-    r.rows[n] = 0;
-    r
+    let predicate = p.arities.as_slice().len();
+    p.rows[predicate] = 0;
+    p.arities.push(start.byte(3));
+    p.rule.solved.push(start.byte(4) == 1);
 }
 
 // n cells from i on, stored from `to` on.
@@ -36,97 +30,72 @@ fn store_cells(bytes: &[u8], i: usize, n: usize, cells: &mut [u32; CELL_LIMIT], 
     requires { (i + 64 < farthest) × (to + n ≤ cell_limit) × (n ≤ arity_limit) }
     ensures { cells.new ≡ puts cells.old to n (cell_from bytes.now i) }
 {
-    let mut k = 0usize;
-    while k < n {
+    for k in 0..n {
         cells[to + k] = four(bytes, i + 4 * k);
-        k += 1;
     }
 }
 
 // A row's cells stand after those of the rows before it; its number in the job stands in the index, after those of its predicate's rows.
-pub fn store_row(
-    bytes: &[u8],
-    at: usize,
-    predicate: usize,
-    n: usize,
-    k: usize,
-    total: usize,
+fn grow_row(
+    start: Start,
+    p: &mut Progress,
     cells: &mut [u32; CELL_LIMIT],
     index: &mut [u16; INDEX_LIMIT],
 )
-    requires { (at + 128 < farthest) × (predicate < predicate_limit) × (n ≤ arity_limit) × (k ≤ total) × (total < row_limit) }
-    ensures cells_after { cells.new ≡ puts cells.old (arity_limit * total) n (cell_from bytes.now (at + 4)) }
-    ensures index_after { index.new ≡ set index.old (row_limit * predicate + k) total }
+    requires { RowReady start.bytes.now start.at p.old }
+    ensures { RowAdded start.entry.bytes.now start.entry.at p.old p.new cells.old index.old cells.new index.new }
 {
-    store_cells(bytes, at + 4, n, cells, ARITY_LIMIT * total);
-    index[ROW_LIMIT * predicate + k] = total as u16;
+    let predicate = start.byte(3);
+    let n = p.arities.as_slice()[predicate];
+    let k = p.rows[predicate];
+    store_cells(start.bytes, start.at + 4, n, cells, ARITY_LIMIT * p.total);
+    index[ROW_LIMIT * predicate + k] = p.total as u16;
+    p.rows[predicate] = k + 1;
+    p.total += 1;
 }
 
-fn grow_head(bytes: &[u8], at: usize, group: usize, p: Progress) -> Progress
-    requires { Named bytes.now at (at + 3) p × (p.rule.many < head_limit) }
-    ensures { result ≡ with_head bytes.now at group p }
+fn grow_head(start: Start, p: &mut Progress)
+    requires { Named start.bytes.now (start.at + 3) p.old × (length p.old.rule.heads < head_limit) × (length p.old.places < head_limit) }
+    ensures { p.new ≡ with_head start.entry.bytes.now start.entry.at p.old }
 {
-    let predicate = byte(bytes, at + 3);
-    let x = head_in(bytes, at, p.arities[predicate]);
-    let k = p.rule.many;
-    let mut rule = p.rule;
-    rule.heads[k] = x;
-    rule.many = k + 1;
-    let mut r = p;
-    r.group = group;
-    r.rule = rule;
-    r.places[k] = at;
-    r
+    let n = p.arities.as_slice()[start.byte(3)];
+    p.rule.heads.push(head_in(start, n));
+    p.places.push(start.at);
 }
 
-fn add_item(group: usize, x: Item, p: Progress) -> Progress
-    requires { p.rule.size < item_limit }
-    ensures { result ≡ with_item group x p p.bound }
+fn grow_literal(start: Start, p: &mut Progress)
+    requires { Named start.bytes.now (start.at + 4) p.old × (length p.old.rule.items < item_limit) }
+    ensures { p.new ≡ with_literal start.entry.bytes.now start.entry.at p.old }
 {
-    let k = p.rule.size;
-    let mut rule = p.rule;
-    rule.items[k] = x;
-    rule.size = k + 1;
-    let mut r = p;
-    r.group = group;
-    r.rule = rule;
-    r
+    let n = p.arities.as_slice()[start.byte(4)];
+    let x = literal_in(start, n);
+    mark(&x, &mut p.bound);
+    p.rule.items.push(x);
 }
 
-fn grow_literal(bytes: &[u8], at: usize, group: usize, p: Progress) -> Progress
-    requires { Named bytes.now at (at + 4) p × (p.rule.size < item_limit) }
-    ensures { result ≡ with_literal bytes.now at group p }
+fn grow_comparison(start: Start, comparison: Comparison, p: &mut Progress)
+    requires { (length p.old.rule.items < item_limit) }
+    ensures { p.new ≡ with_comparison (comparison_of comparison) start.entry.bytes.now start.entry.at p.old }
 {
-    let predicate = byte(bytes, at + 4);
-    let x = literal_in(bytes, at, p.arities[predicate]);
-    let mut r = add_item(group, x, p);
-    if x.kind == POSITIVE {
-        let mut bound = p.bound;
-        mark_terms(x, &mut bound);
-        r.bound = bound;
-        return r;
-    }
-    r
+    p.rule.items.push(comparison_in(start, comparison));
 }
 
-fn grow_comparison(bytes: &[u8], at: usize, tag: usize, group: usize, p: Progress) -> Progress
-    requires { (at + 128 < farthest) × (p.rule.size < item_limit) }
-    ensures { result ≡ with_comparison (comparison_at tag) bytes.now at group p }
+pub fn grow(
+    start: Start,
+    tag: Tag,
+    p: &mut Progress,
+    cells: &mut [u32; CELL_LIMIT],
+    index: &mut [u16; INDEX_LIMIT],
+)
+    requires { Ready start.bytes.now start.at (meant tag) p.old × Filled p.old cells.old index.old }
+    ensures { Stepped start.entry.bytes.now start.entry.at p.old p.new cells.old index.old cells.new index.new }
 {
-    add_item(group, comparison_in(bytes, at, tag), p)
-}
-
-// A field that is no row. A row's step is taken where the record stands, in the reading loop.
-pub fn grow(bytes: &[u8], at: usize, p: Progress) -> Progress
-    requires { Ready bytes.now at p × (tag_at bytes.now at ≢ 2) }
-    ensures { (cells index : List ℕ) → Filled p cells index → Stepped bytes.now at p result cells index cells index }
-{
-    let tag = byte(bytes, at);
-    let group = line_of(tag).group;
+    p.group = tag.line().group;
     match tag {
-        PREDICATE => grow_predicate(bytes, at, group, p),
-        HEAD => grow_head(bytes, at, group, p),
-        LITERAL => grow_literal(bytes, at, group, p),
-        _ => grow_comparison(bytes, at, tag, group, p),
+        Tag::Predicate => grow_predicate(start, p),
+        Tag::Row => grow_row(start, p, cells, index),
+        Tag::Head => grow_head(start, p),
+        Tag::Literal => grow_literal(start, p),
+        Tag::Comparison(comparison) => grow_comparison(start, comparison, p),
     }
 }

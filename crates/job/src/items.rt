@@ -1,49 +1,47 @@
 // The heads and body items in a job's bytes.
 ghost use Rattle.std.specs.Prelude.{◌≡◌, ◌+◌, ◌≤◌, ◌<◌};
 ghost use Rattle.meaning.specs.Job.{arity_limit};
-ghost use Rattle.job.specs.Progress.{farthest, item_from, head_from, literal_from, comparison_from};
-ghost use Rattle.job.specs.Table.{comparison_at};
+ghost use Rattle.rule.specs.Rule.{comparison_of};
+ghost use Rattle.job.specs.Progress.{item_from, head_from, literal_from, comparison_from};
 
-use crate::bytes::byte;
-use crate::table::kind_of;
+use crate::bytes::Start;
 use crate::terms::terms_at;
-use rule::{Item, NEGATED, POSITIVE};
+use rule::{Comparison, Item, Kind, Test};
 
-fn item_at(bytes: &[u8], kind: u8, predicate: usize, i: usize, n: usize) -> Item
-    requires { (i + 64 < farthest) × (n ≤ arity_limit) }
-    ensures { result ≡ item_from bytes.now kind predicate i n }
+// An item with n terms from byte k of the field on.
+fn item_at(start: Start, kind: Kind, predicate: usize, k: usize, n: usize) -> Item
+    requires { (k < 64) × (n ≤ arity_limit) }
+    ensures { result ≡ item_from start.entry.bytes.now kind predicate (start.entry.at + k) n }
 {
-    let terms = terms_at(bytes, i, n);
     Item {
         kind,
         predicate,
-        arity: n,
-        terms,
+        terms: terms_at(start.bytes, start.at + k, n),
     }
 }
 
-// The head in the field at `at`, whose predicate has n places.
-pub fn head_in(bytes: &[u8], at: usize, n: usize) -> Item
-    requires { (at + 128 < farthest) × (n ≤ arity_limit) }
-    ensures { result ≡ head_from bytes.now at n }
+// The head in the field, whose predicate has n places.
+pub fn head_in(start: Start, n: usize) -> Item
+    requires { n ≤ arity_limit }
+    ensures { result ≡ head_from start.entry.bytes.now start.entry.at n }
 {
-    item_at(bytes, POSITIVE, byte(bytes, at + 3), at + 4, n)
+    item_at(start, Kind::Positive, start.byte(3), 4, n)
 }
 
-pub fn literal_in(bytes: &[u8], at: usize, n: usize) -> Item
-    requires { (at + 128 < farthest) × (n ≤ arity_limit) }
-    ensures { result ≡ literal_from bytes.now at n }
+pub fn literal_in(start: Start, n: usize) -> Item
+    requires { n ≤ arity_limit }
+    ensures { result ≡ literal_from start.entry.bytes.now start.entry.at n }
 {
-    let predicate = byte(bytes, at + 4);
-    if byte(bytes, at + 3) == 0 {
-        return item_at(bytes, POSITIVE, predicate, at + 5, n);
-    }
-    item_at(bytes, NEGATED, predicate, at + 5, n)
+    let kind = if start.byte(3) == 0 {
+        Kind::Positive
+    } else {
+        Kind::Test(Test::Negated)
+    };
+    item_at(start, kind, start.byte(4), 5, n)
 }
 
-pub fn comparison_in(bytes: &[u8], at: usize, tag: usize) -> Item
-    requires { at + 128 < farthest }
-    ensures { result ≡ comparison_from (comparison_at tag) bytes.now at }
+pub fn comparison_in(start: Start, comparison: Comparison) -> Item
+    ensures { result ≡ comparison_from (comparison_of comparison) start.entry.bytes.now start.entry.at }
 {
-    item_at(bytes, kind_of(tag), 0, at + 3, 2)
+    item_at(start, Kind::Test(Test::Comparison(comparison)), 0, 3, 2)
 }

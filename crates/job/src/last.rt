@@ -3,28 +3,29 @@ ghost use Rattle.job.specs.Progress.{Well};
 ghost use Rattle.job.specs.Answer.{LastIs};
 
 use crate::bound::free_terms;
-use crate::fault::{Fault, Verdict};
+use crate::fault::{Fault, Refusal};
 use crate::progress::Progress;
 
 // 10, then 11.
-pub fn last(bytes: &[u8], p: Progress) -> Verdict
-    requires { Well p }
-    ensures { LastIs result bytes.now p }
+pub fn last(bytes: &[u8], p: &Progress) -> Result<(), Refusal>
+    requires { Well p.now }
+    ensures { LastIs result bytes.now p.now }
 {
-    let bound = p.bound;
-    let rule = p.rule;
-    let n = rule.many;
-    let mut i = 0usize;
-    while i < n {
-        if free_terms(rule.heads[i], &bound) {
-            return Verdict::Refused(Fault::Unsafe, p.places[i]);
-        }
-        i += 1;
-    }
-    if n == 0 {
-        if rule.size == 0 {
-            return Verdict::Refused(Fault::Empty, bytes.len());
+    let heads = p.rule.heads.as_slice();
+    let places = p.places.as_slice();
+    for i in 0..heads.len() {
+        if free_terms(&heads[i], &p.bound) {
+            return Err(Refusal {
+                fault: Fault::Unsafe,
+                place: places[i],
+            });
         }
     }
-    Verdict::Accepted
+    if heads.is_empty() && p.rule.items.as_slice().is_empty() {
+        return Err(Refusal {
+            fault: Fault::Empty,
+            place: bytes.len(),
+        });
+    }
+    Ok(())
 }

@@ -1,34 +1,22 @@
 // The fields, by tag.
-ghost use Rattle.std.specs.Prelude.{◌≡◌, ◌≤◌};
-ghost use Rattle.meaning.specs.Reading.{tag_of, line_of};
-ghost use Rattle.rule.specs.Rule.{kind_of};
-ghost use Rattle.job.specs.Table.{last_tag, comparison_at, LineIs};
+ghost use Rattle.std.specs.Prelude.{◌≡◌};
+ghost use Rattle.meaning.specs.Reading.{line_of};
+ghost use Rattle.job.specs.Table.{meant, LineIs, Decodes};
 
-use rule::{HEAD_LIMIT, ITEM_LIMIT, PREDICATE_LIMIT, ROW_LIMIT};
+use crate::fault::Fault;
+use rule::{Comparison, HEAD_LIMIT, ITEM_LIMIT, PREDICATE_LIMIT, ROW_LIMIT};
 
-pub const TAGS: usize = 6;
+#[derive(Clone, Copy)]
+pub enum Tag {
+    Predicate,
+    Row,
+    Head,
+    Literal,
+    Comparison(Comparison),
+}
 
-pub const PREDICATE: usize = 1;
-
-pub const ROW: usize = 2;
-
-pub const HEAD: usize = 3;
-
-pub const LITERAL: usize = 4;
-
-pub const LESS_THAN: usize = 5;
-
-// Group, limit, smallest length, bytes up to the predicate's (0 where the field names none), bytes for each place.
-const FIELDS: [[usize; 5]; 7] = [
-    [0, 0, 0, 0, 0],
-    [1, PREDICATE_LIMIT, 2, 0, 0],
-    [2, ROW_LIMIT, 1, 1, 4],
-    [3, HEAD_LIMIT, 1, 1, 5],
-    [4, ITEM_LIMIT, 2, 2, 5],
-    [4, ITEM_LIMIT, 10, 0, 0],
-    [4, ITEM_LIMIT, 10, 0, 0],
-];
-
+// Of a kind of field the group, the limit, the smallest length, the bytes up to the predicate's (0 where the field names none), and the bytes
+// for each place.
 #[derive(Clone, Copy)]
 pub struct Line {
     pub group: usize,
@@ -38,31 +26,74 @@ pub struct Line {
     pub each: usize,
 }
 
-pub fn line_of(tag: usize) -> Line
-    requires { (1 ≤ tag) × (tag ≤ last_tag) }
-    ensures { LineIs result (line_of (tag_of tag)) }
-{
-    let line = FIELDS[tag];
-    let group = line[0];
-    let limit = line[1];
-    let smallest = line[2];
-    let upto = line[3];
-    let each = line[4];
+// Of predicates, rows, heads, literals and comparisons. Behind a reference: an array would be made anew on the stack at each look.
+const LINES: &[Line; 5] = &[
     Line {
-        group,
-        limit,
-        smallest,
-        upto,
-        each,
+        group: 1,
+        limit: PREDICATE_LIMIT,
+        smallest: 2,
+        upto: 0,
+        each: 0,
+    },
+    Line {
+        group: 2,
+        limit: ROW_LIMIT,
+        smallest: 1,
+        upto: 1,
+        each: 4,
+    },
+    Line {
+        group: 3,
+        limit: HEAD_LIMIT,
+        smallest: 1,
+        upto: 1,
+        each: 5,
+    },
+    Line {
+        group: 4,
+        limit: ITEM_LIMIT,
+        smallest: 2,
+        upto: 2,
+        each: 5,
+    },
+    Line {
+        group: 4,
+        limit: ITEM_LIMIT,
+        smallest: 10,
+        upto: 0,
+        each: 0,
+    },
+];
+
+impl TryFrom<u8> for Tag {
+    type Error = Fault;
+
+    ghost try_from_gives = { Decodes };
+
+    fn try_from(tag: u8) -> Result<Tag, Fault> {
+        match tag {
+            1 => Ok(Tag::Predicate),
+            2 => Ok(Tag::Row),
+            3 => Ok(Tag::Head),
+            4 => Ok(Tag::Literal),
+            5 => Ok(Tag::Comparison(Comparison::LessThan)),
+            6 => Ok(Tag::Comparison(Comparison::Before)),
+            _ => Err(Fault::Tag),
+        }
     }
 }
 
-// The kind of the comparison in a field of this tag.
-pub fn kind_of(tag: usize) -> u8
-    ensures { result ≡ kind_of (comparison_at tag) }
-{
-    match tag {
-        LESS_THAN => rule::LESS_THAN,
-        _ => rule::BEFORE,
+impl Tag {
+    pub fn line(self) -> Line
+        ensures { LineIs result (line_of (meant self)) }
+    {
+        let place = match self {
+            Tag::Predicate => 0,
+            Tag::Row => 1,
+            Tag::Head => 2,
+            Tag::Literal => 3,
+            Tag::Comparison(_) => 4,
+        };
+        LINES[place]
     }
 }

@@ -1,23 +1,22 @@
 -- The lister's output, from document 01, case 2. A text is a list of bytes. Read it beside that case.
-use Rattle.std.specs.Prelude.{ℕ, zero, suc, ◌+◌, ◌/◌, ◌%◌, true, false, List, [], ◌∷◌, ◌++◌, ltb, take, drop}
-use Rattle.ground.specs.declared.Answer.{Answer}
-use Rattle.ground.specs.declared.Answer.TheVariants.{Complete, Stopped, Full, Refused}
+use Rattle.std.specs.Prelude.{ℕ, zero, suc, ◌+◌, ◌/◌, ◌%◌, true, false, List, [], ◌∷◌, ◌++◌, ltb, take, drop, Result, Ok, Err, codes}
+use Rattle.job.specs.Fault.{number_of}
+use Rattle.job.specs.declared.fault.Refusal.{Refusal}
+use Rattle.walk.specs.declared.state.Ended.{Ended}
+use Rattle.walk.specs.declared.state.Ending.{Ending}
+use Rattle.walk.specs.declared.state.Ending.TheVariants.{Complete, Stopped, Full}
 
--- the words `vars`, `complete`, `stopped`, `full` and `refused`
-unfoldable pub vars : List ℕ
-vars = 118 ∷ 97 ∷ 114 ∷ 115 ∷ []
+-- the words
+abbrev pub vars : List ℕ
+vars = codes "vars"
 
-unfoldable pub complete : List ℕ
-complete = 99 ∷ 111 ∷ 109 ∷ 112 ∷ 108 ∷ 101 ∷ 116 ∷ 101 ∷ []
+abbrev pub refused : List ℕ
+refused = codes "refused"
 
-unfoldable pub stopped : List ℕ
-stopped = 115 ∷ 116 ∷ 111 ∷ 112 ∷ 112 ∷ 101 ∷ 100 ∷ []
-
-unfoldable pub full : List ℕ
-full = 102 ∷ 117 ∷ 108 ∷ 108 ∷ []
-
-unfoldable pub refused : List ℕ
-refused = 114 ∷ 101 ∷ 102 ∷ 117 ∷ 115 ∷ 101 ∷ 100 ∷ []
+abbrev pub word_of : Ending → List ℕ
+word_of Complete = codes "complete"
+word_of Stopped = codes "stopped"
+word_of Full = codes "full"
 
 -- n in decimal, where it has at most `more` digits before its last
 unfoldable pub digits : ℕ → ℕ → List ℕ
@@ -48,13 +47,11 @@ entry_lines zero size cells = []
 entry_lines (suc n) size cells = entry_line (take size cells) ++ entry_lines n size (drop size cells)
 
 -- "Line 1: relevant variables (`vars` by itself where there are none). Then an entry a line, its cells. Last: ending, entries, tests."
-unfoldable pub run_lines : List ℕ → ℕ → ℕ → List ℕ → ℕ → List ℕ → List ℕ
-run_lines ending entries tests relevant size cells =
-    line (vars ++ spaced relevant) ++ entry_lines entries size cells ++ line (ending ++ spaced (entries ∷ tests ∷ []))
+unfoldable pub run_lines : Ended → List ℕ → ℕ → List ℕ → List ℕ
+run_lines ended relevant size cells =
+    line (vars ++ spaced relevant) ++ entry_lines ended.entries size cells ++ line (word_of ended.ending ++ spaced (ended.entries ∷ ended.tests ∷ []))
 
 -- the text for an answer, by the relevant variables, the cells of an entry and the list's cells: "A refused job prints only `refused`, number, place."
-unfoldable pub lines_of : Answer → List ℕ → ℕ → List ℕ → List ℕ
-lines_of (Complete entries tests) relevant size cells = run_lines complete entries tests relevant size cells
-lines_of (Stopped entries tests) relevant size cells = run_lines stopped entries tests relevant size cells
-lines_of (Full entries tests) relevant size cells = run_lines full entries tests relevant size cells
-lines_of (Refused number place) relevant size cells = line (refused ++ spaced (number ∷ place ∷ []))
+unfoldable pub lines_of : Result Ended Refusal → List ℕ → ℕ → List ℕ → List ℕ
+lines_of (Ok ended) relevant size cells = run_lines ended relevant size cells
+lines_of (Err refusal) relevant size cells = line (refused ++ spaced (number_of refusal.fault ∷ refusal.place ∷ []))

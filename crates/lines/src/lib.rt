@@ -1,108 +1,82 @@
 // The lister's text for an answer: document 01, case 2.
 #![tactic(auto)]
 
-ghost use Rattle.std.specs.Prelude.{[], ◌∷◌, ◌++◌, ◌≤◌, length, take};
-ghost use Rattle.lines.specs.Lines.{vars, spaced, line, entry_line, entry_lines, run_lines, lines_of};
-ghost use Rattle.lines.specs.Put.{Put, Written};
+ghost use Rattle.std.specs.Prelude.{[], ◌∷◌, ◌++◌, ◌≡◌, take};
+ghost use Rattle.lines.specs.Lines.{vars, spaced, line, entry_line, entry_lines, word_of, run_lines, lines_of};
+ghost use Rattle.lines.specs.Written.{Written};
 
 mod put;
 
-use crate::put::{put, put_number, put_spaced, put_word};
-use ground::{Answer, Shape};
-use rule::{VARIABLE_LIMIT, at_most};
-
-fn put_variables(out: &mut [u8], at: usize, variables: &[usize]) -> usize
-    requires { at ≤ length out.old }
-    ensures { Put out.old at (spaced variables.now) out.new result }
-{
-    let mut next = at;
-    let mut i = 0;
-    while i < variables.len() {
-        next = put_spaced(out, next, variables[i]);
-        i += 1;
-    }
-    next
-}
-
-fn put_cells(out: &mut [u8], at: usize, cells: &[u32]) -> usize
-    requires { at ≤ length out.old }
-    ensures { Put out.old at (spaced cells.now) out.new result }
-{
-    let mut next = at;
-    let mut i = 0;
-    while i < cells.len() {
-        next = put_spaced(out, next, cells[i] as usize);
-        i += 1;
-    }
-    next
-}
+use crate::put::{put, put_number, put_spaced};
+use ground::{Answer, Ended, Ending, Shape};
 
 // An entry's line: its cells, one space between them.
-fn put_entry(out: &mut [u8], at: usize, cells: &[u32]) -> usize
-    requires { at ≤ length out.old }
-    ensures { Put out.old at (entry_line cells.now) out.new result }
+fn put_entry(out: &mut [u8], cells: &[u32]) -> usize
+    ensures { Written (entry_line cells.now) out.old out.new result }
 {
-    if cells.len() == 0 {
-        return put(out, at, b'\n');
+    let Some((first, rest)) = cells.split_first() else {
+        return put(out, b"\n");
+    };
+    let mut at = put_number(out, *first as usize);
+    for cell in rest {
+        at += put_spaced(&mut out[at..], *cell as usize);
     }
-    let first = put_number(out, at, cells[0] as usize);
-    let next = put_cells(out, first, &cells[1..]);
-    put(out, next, b'\n')
+    at + put(&mut out[at..], b"\n")
 }
 
 // The lines of so many entries, from the start of the cells on. Cells past the end are left out.
-fn put_entries(out: &mut [u8], at: usize, entries: usize, size: usize, cells: &[u32]) -> usize
-    requires { at ≤ length out.old }
-    ensures { Put out.old at (entry_lines entries size cells.now) out.new result }
+fn put_entries(out: &mut [u8], entries: usize, size: usize, cells: &[u32]) -> usize
+    ensures { Written (entry_lines entries size cells.now) out.old out.new result }
 {
-    let mut next = at;
-    let mut base = 0;
-    let mut left = entries;
-    while 0 < left {
-        let end = base + at_most(size, cells.len() - base);
-        next = put_entry(out, next, &cells[base..end]);
-        base = end;
-        left -= 1;
+    let mut at = 0;
+    let mut rest = cells;
+    for _ in 0..entries {
+        let (cells, after) = rest.split_at(size.min(rest.len()));
+        at += put_entry(&mut out[at..], cells);
+        rest = after;
     }
-    next
+    at
 }
 
 // The first line: the relevant variables.
-fn put_vars(out: &mut [u8], at: usize, relevant: &[usize]) -> usize
-    requires { at ≤ length out.old }
-    ensures { Put out.old at (line (vars ++ spaced relevant.now)) out.new result }
+fn put_vars(out: &mut [u8], relevant: &[usize]) -> usize
+    ensures { Written (line (vars ++ spaced relevant.now)) out.old out.new result }
 {
-    let word = put_word(out, at, b"vars");
-    let next = put_variables(out, word, relevant);
-    put(out, next, b'\n')
+    let mut at = put(out, b"vars");
+    for variable in relevant {
+        at += put_spaced(&mut out[at..], *variable);
+    }
+    at + put(&mut out[at..], b"\n")
 }
 
 // The last line: an ending, entries and tests, or a refusal, its number and place.
-fn put_answer(out: &mut [u8], at: usize, word: &[u8], first: usize, second: usize) -> usize
-    requires { at ≤ length out.old }
-    ensures { Put out.old at (line (word.now ++ spaced (first ∷ second ∷ []))) out.new result }
+fn put_answer(out: &mut [u8], word: &[u8], first: usize, second: usize) -> usize
+    ensures { Written (line (word.now ++ spaced (first ∷ second ∷ []))) out.old out.new result }
 {
-    let told = put_word(out, at, word);
-    let next = put_spaced(out, told, first);
-    let last = put_spaced(out, next, second);
-    put(out, last, b'\n')
+    let mut at = put(out, word);
+    at += put_spaced(&mut out[at..], first);
+    at += put_spaced(&mut out[at..], second);
+    at + put(&mut out[at..], b"\n")
 }
 
-fn put_run(
-    out: &mut [u8],
-    ending: &[u8],
-    entries: usize,
-    tests: u32,
-    shape: Shape,
-    list: &[u32],
-) -> usize
-    ensures { Put out.old 0 (run_lines ending.now entries tests (take shape.relevants shape.relevant) shape.entry list.now) out.new result }
+// The word for how a search ended.
+fn word(ending: Ending) -> &'static [u8]
+    ensures { result.now ≡ word_of ending }
 {
-    let relevant = shape.relevant;
-    let relevants = at_most(shape.relevants, VARIABLE_LIMIT);
-    let first = put_vars(out, 0, &relevant[..relevants]);
-    let last = put_entries(out, first, entries, shape.entry, list);
-    put_answer(out, last, ending, entries, tests as usize)
+    match ending {
+        Ending::Complete => b"complete",
+        Ending::Stopped => b"stopped",
+        Ending::Full => b"full",
+    }
+}
+
+fn put_run(out: &mut [u8], ended: Ended, shape: Shape, list: &[u32]) -> usize
+    ensures { Written (run_lines ended (take shape.relevants shape.relevant) shape.entry list.now) out.old out.new result }
+{
+    let mut at = put_vars(out, shape.relevant());
+    at += put_entries(&mut out[at..], ended.entries, shape.entry, list);
+    let tests = ended.tests as usize;
+    at + put_answer(&mut out[at..], word(ended.ending), ended.entries, tests)
 }
 
 // The text for an answer, written into `out` from the start as far as it has room. Returns how many bytes were written.
@@ -110,9 +84,10 @@ pub fn write_lines(answer: Answer, shape: Shape, list: &[u32], out: &mut [u8]) -
     ensures { Written (lines_of answer (take shape.relevants shape.relevant) shape.entry list.now) out.old out.new result }
 {
     match answer {
-        Answer::Complete(entries, tests) => put_run(out, b"complete", entries, tests, shape, list),
-        Answer::Stopped(entries, tests) => put_run(out, b"stopped", entries, tests, shape, list),
-        Answer::Full(entries, tests) => put_run(out, b"full", entries, tests, shape, list),
-        Answer::Refused(number, place) => put_answer(out, 0, b"refused", number, place),
+        Ok(ended) => put_run(out, ended, shape, list),
+        Err(refusal) => {
+            let number = usize::from(refusal.fault);
+            put_answer(out, b"refused", number, refusal.place)
+        }
     }
 }

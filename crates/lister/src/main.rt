@@ -2,10 +2,9 @@
 // `--plain`, by the plain engine.
 #![tactic(auto)]
 
-ghost use Rattle.std.specs.Prelude.{◌≡◌};
-ghost use Rattle.meaning.specs.Basics.{same};
-ghost use Rattle.lister.specs.Word.{plain_word};
+ghost use Rattle.std.specs.Prelude.{IsTrue, codes, ◌↔◌, ◌≡◌};
 
+use ground::Engine;
 use input::read_full;
 use rule::JOB_LIMIT;
 use std::env::FillError;
@@ -28,29 +27,18 @@ const WORD_ROOM: usize = 4096;
 
 // Whether the word is `--plain`.
 fn is_plain(word: &[u8]) -> bool
-    ensures { result ≡ same word.now plain_word }
+    ensures { IsTrue result ↔ (word.now ≡ codes "--plain") }
 {
-    let plain = b"--plain";
-    if word.len() != plain.len() {
-        return false;
-    }
-    let mut i = 0;
-    while i < word.len() {
-        if word[i] != plain[i] {
-            return false;
-        }
-        i += 1;
-    }
-    true
+    word == b"--plain".as_slice()
 }
 
-// The list of the job on standard input, by the plain engine or by the walk.
-fn list(rt: &(impl Input + Print), plain: bool) -> io::Result<()> {
+// The list of the job on standard input.
+fn list(rt: &(impl Input + Print), engine: Engine) -> io::Result<()> {
     let mut job = [0u8; JOB_ROOM];
     let length = read_full(&mut rt.reader(), &mut job)?;
     let shape = ground::shape_of(&job[..length]);
     let mut list = [0u32; CELLS];
-    let answer = ground::ground_by(plain, &job[..length], ALLOWANCE, &mut list);
+    let answer = ground::ground_by(engine, &job[..length], ALLOWANCE, &mut list);
     let mut text = [0u8; TEXT_ROOM];
     let written = lines::write_lines(answer, shape, &list, &mut text);
     io::writer(rt).write_all(&text[..written])
@@ -59,8 +47,8 @@ fn list(rt: &(impl Input + Print), plain: bool) -> io::Result<()> {
 fn main(rt: HostRuntime) -> io::Result<()> {
     let mut word = [0u8; WORD_ROOM];
     match rt.arg(1, &mut word) {
-        Ok(length) if is_plain(&word[..length]) => list(&rt, true),
-        Err(FillError::NotPresent) => list(&rt, false),
+        Ok(length) if is_plain(&word[..length]) => list(&rt, Engine::Plain),
+        Err(FillError::NotPresent) => list(&rt, Engine::Walk),
         _ => eprintln!(rt; "usage: lister [--plain] <JOB"),
     }
 }

@@ -1,2 +1,2 @@
--- How the code's frame stands for the meaning.
-pub mod Frame
+-- How the code's field stands for the meaning.
+pub mod Field

@@ -1,10 +1,10 @@
-// Comparisons of two numbers, by their kinds.
+// Comparisons of two numbers.
 ghost use Rattle.std.specs.Prelude.{◌≡◌};
 ghost use Rattle.meaning.specs.Counter.{before?};
 ghost use Rattle.meaning.specs.Relevant.{compare};
 ghost use Rattle.rule.specs.Rule.{comparison_of};
 
-use crate::LESS_THAN;
+use crate::Comparison;
 
 // As far as a number of the counter may be ahead of one that is before it.
 const REACH: u32 = 2147483647;
@@ -12,16 +12,17 @@ const REACH: u32 = 2147483647;
 fn is_before(a: u32, b: u32) -> bool
     ensures { result ≡ before? a b }
 {
-    let ahead = std::num::wrapping_sub_u32(b, a);
+    let ahead = b.wrapping_sub(a);
     1 <= ahead && ahead <= REACH
 }
 
-// Whether a comparison of this kind holds.
-pub fn compare(kind: u8, a: u32, b: u32) -> bool
-    ensures { result ≡ compare (comparison_of kind) a b }
+// Whether the comparison holds.
+#[tactic(auto, unfolding(meaning::specs::Relevant::compare))]
+pub fn compare(comparison: Comparison, a: u32, b: u32) -> bool
+    ensures { result ≡ compare (comparison_of comparison) a b }
 {
-    match kind {
-        LESS_THAN => a < b,
-        _ => is_before(a, b),
+    match comparison {
+        Comparison::LessThan => a < b,
+        Comparison::Before => is_before(a, b),
     }
 }

@@ -1,9 +1,10 @@
 // The rule as the code holds it; how it stands for a rule of the meaning is in specs/. The limits of document 01 have their names here.
 #![tactic(auto)]
 
-ghost use Rattle.std.specs.Prelude.{◌≡◌, min};
-
+pub mod at_most;
 pub mod compare;
+
+use crate::at_most::AtMost;
 
 pub const JOB_LIMIT: usize = 32768;
 
@@ -24,45 +25,52 @@ pub const CELL_LIMIT: usize = 4096;
 
 pub const INDEX_LIMIT: usize = 16384;
 
+// The comparisons of two numbers.
+#[derive(Clone, Copy)]
+pub enum Comparison {
+    LessThan,
+    Before,
+}
+
+// What an item that is no positive literal tests: that no row is the filled-in atom, or a comparison.
+#[derive(Clone, Copy)]
+pub enum Test {
+    Negated,
+    Comparison(Comparison),
+}
+
 // The kinds of body item.
-pub const POSITIVE: u8 = 0;
-
-pub const NEGATED: u8 = 1;
-
-pub const LESS_THAN: u8 = 2;
-
-pub const BEFORE: u8 = 3;
-
-// A number, or a variable by its number.
-#[derive(Clone, Copy)]
-pub struct Term {
-    pub variable: bool,
-    pub value: u32,
+#[derive(Clone, Copy, Default)]
+pub enum Kind {
+    #[default]
+    Positive,
+    Test(Test),
 }
 
-// The first `arity` terms count. A comparison names no predicate.
 #[derive(Clone, Copy)]
+pub enum Term {
+    Number(u32),
+    Variable(u32),
+}
+
+impl Default for Term {
+    fn default() -> Term {
+        Term::Number(0)
+    }
+}
+
+// A head, or an item of the body. A comparison names no predicate.
+#[derive(Drop, Default)]
 pub struct Item {
-    pub kind: u8,
+    pub kind: Kind,
     pub predicate: usize,
-    pub arity: usize,
-    pub terms: [Term; ARITY_LIMIT],
+    pub terms: AtMost<Term, ARITY_LIMIT>,
 }
 
-// The first `size` items are the body, the first `many` heads the heads; of the first `predicates` predicates, whether each is solved.
-#[derive(Clone, Copy)]
+// The body, the heads, and of each predicate whether it is solved.
+#[derive(Drop, Default)]
 pub struct Rule {
-    pub items: [Item; ITEM_LIMIT],
-    pub size: usize,
-    pub heads: [Item; HEAD_LIMIT],
-    pub many: usize,
-    pub solved: [bool; PREDICATE_LIMIT],
-    pub predicates: usize,
-}
-
-// A number, or the limit where that is less.
-pub fn at_most(n: usize, limit: usize) -> usize
-    ensures { result ≡ min n limit }
-{
-    if n < limit { n } else { limit }
+    pub items: AtMost<Item, ITEM_LIMIT>,
+    pub heads: AtMost<Item, HEAD_LIMIT>,
+    pub solved: AtMost<bool, PREDICATE_LIMIT>,
 }

@@ -1,28 +1,21 @@
--- After a read the buffer is what it was up to `filled`, and then what was read.
-use Rattle.std.proofs.Common.{◌≡◌, ℕ, ◌+◌, ◌-◌, ◌≤◌, List, ◌++◌, rules, arith, length, take, slice_range, sym, ap, ◌∙◌, subst, le_refl, drop_at, length-take-le}
-use Rattle.std.proofs.lemmas.Slice.{take-put_mid_below}
+use Rattle.std.proofs.Common.{◌≡◌, ℕ, ◌+◌, ◌-◌, ◌≤◌, List, ◌++◌, rules, length, take, sym, ap, ◌∙◌, subst, length-take-le}
+use Rattle.std.proofs.lemmas.List.{take-append-le}
+use Rattle.std.proofs.Math.Seq.{take-append-add}
 use Rattle.std.specs.Io.KnownBytes.{Consumes}
 use Rattle.std.proofs.KnownBytes.{Consumes-trans}
 use borrow.Rule.Slice.PartMut.{put_mid, post_of}
-use lib.Seq.{take-add, take-append-le}
 use Rattle.input.proofs.read_full.Goals as goal
 
-take_split : (a b : ℕ) (old new : List ℕ) → a ≤ b → take a new ≡ take a old → take a old ++ slice_range new a b ≡ take b new
-take_split a b old new h front =
-    let same : a + (b - a) ≡ b = omega arith in
-    ap (λ l. l ++ slice_range new a b) (sym front) ∙ sym (take-add a (b - a) new) ∙ ap (λ n. take n new) same
-
-range_put_mid : (a k n : ℕ) (xs ys : List ℕ) → a ≤ length xs → n ≤ length ys → slice_range (put_mid a k xs ys) a (a + n) ≡ take n ys
-range_put_mid a k n xs ys within fits =
-    let same : (a + n) - a ≡ n = omega arith in
-    let after = post_of a k xs in
-    ap (take ((a + n) - a)) (drop_at (take a xs) (ys ++ after) a (length-take-le a xs within)) ∙ ap (λ m. take m (ys ++ after)) same ∙ take-append-le n ys after fits
+-- after a read the buffer is what it was up to `filled`, and then what was read
+take_put : (a k n : ℕ) (old new : List ℕ) → a ≤ length old → n ≤ length new → take (a + n) (put_mid a k old new) ≡ take a old ++ take n new
+take_put a k n old new within fits =
+    ap (λ (m : ℕ). take (m + n) (put_mid a k old new)) (sym (length-take-le a old within))
+    ∙ take-append-add (take a old) (new ++ post_of a k old) n
+    ∙ ap (λ (l : List ℕ). take a old ++ l) (take-append-le n new (post_of a k old) fits)
 
 pub loop-filled-preserved : goal.loop-filled-preserved
 loop-filled-preserved g c =
-    let from = c.loop-filled.filled in
-    let room = length c.loop-filled.buffer - from in
-    let within = c.loop-filled.invariant.1 in
-    let part = range_put_mid from room c.in_ok-n.n c.loop-filled.buffer c.read.new.buf within c.in_ok-n.ensures.bound.0 in
-    let joined = take_split from (from + c.in_ok-n.n) c.loop-filled.buffer (put_mid from room c.loop-filled.buffer c.read.new.buf) (omega arith) (take-put_mid_below _ _ _ _ _ (le_refl _) within) in
-    (search rules, search rules, subst (Consumes _ _) (ap (λ l. take from c.loop-filled.buffer ++ l) (sym part) ∙ joined) (Consumes-trans _ _ _ _ _ c.loop-filled.invariant.2 c.in_ok-n.ensures.bytes.0))
+    let l = c.loop-filled in
+    let read = c.in_ok-n.ensures in
+    let joined = take_put l.filled (length l.buffer - l.filled) c.in_ok-n.n l.buffer c.read.new.buf l.invariant.0 read.bound.0 in
+    (search rules, subst (Consumes _ _) (sym joined) (Consumes-trans _ _ _ _ _ l.invariant.1 read.bytes.0))

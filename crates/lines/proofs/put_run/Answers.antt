@@ -1,13 +1,8 @@
-use Rattle.std.proofs.Common.{◌≡◌, length, rules, take}
-use Rattle.lines.proofs.Texts.{put_run, take_most}
+use Rattle.lines.specs.Lines.{run_lines}
+use Rattle.lines.proofs.Puts.{written_then}
 use Rattle.lines.proofs.put_run.Goals as goal
 
 pub returns : goal.returns
+unfolding run_lines
 returns c =
-    let relevant_length : length c.args.shape.relevant ≡ 16 = search rules in
-    let s = c.args in
-    let most = c.at_most-relevants in
-    put_run s.ending.now (take s.shape.relevants s.shape.relevant) s.list.now _ _ _
-    (rw (take_most _ _ _ _ relevant_length most.ensures) at c.put_vars-first.ensures)
-    c.put_entries-last.ensures
-    c.put_answer.ensures
+    rw (← c.relevant.ensures, ← c.word.ensures) (written_then (written_then c.put_vars-at.ensures c.put_entries-at.ensures) c.put_answer.ensures)

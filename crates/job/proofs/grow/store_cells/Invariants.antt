@@ -1,11 +1,8 @@
 -- The loop's invariant: the cells passed are stored, and no other.
-use Rattle.std.proofs.Common.{◌-◌, ◌≡◌, ◌≤◌}
+use Rattle.std.proofs.Common.{◌≡◌}
 use Rattle.job.specs.Puts.{puts}
 use Rattle.job.specs.Progress.{cell_from}
 use Rattle.job.proofs.grow.store_cells.Given as goal
 
 abbrev pub invariant-loop-k : goal.invariant-loop-k
-invariant-loop-k l = (l.k ≤ l.n) × (l.cells ≡ puts l.initial.cells l.to l.k (cell_from l.bytes l.i))
-
-abbrev pub decreases-loop-k : goal.decreases-loop-k
-decreases-loop-k l = l.n - l.k
+invariant-loop-k l = l.cells ≡ puts l.initial.cells l.to l.k (cell_from l.bytes l.i)

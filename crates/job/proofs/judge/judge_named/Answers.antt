@@ -1,17 +1,23 @@
 use Rattle.std.proofs.Common.{arith}
-use Rattle.job.proofs.Judging.{told_of, told_missing, named_short, named_missing, named_rest}
+use Rattle.std.proofs.lemmas.Result.{err_from_is_err_and}
+use Rattle.job.specs.Table.{PlacesAre}
+use Rattle.job.proofs.Judging.{named_short, named_missing, named_rest}
 use Rattle.job.proofs.judge.judge_named.Goals as goal
 
 pub returns-then-length-line : goal.returns-then-length-line
-returns-then-length-line c = named_short _ _ _ _ _ c.requires.0 (omega (arith, c.line_of-line.ensures.up_to))
+returns-then-length-line c = named_short _ _ _ _ _ c.requires.0 (omega (arith, c.line.ensures.up_to))
+
+pub returns-in_err-n : goal.returns-in_err-n
+unfolding PlacesAre
+returns-in_err-n c =
+    let p = err_from_is_err_and c.from_residual.result c.from_residual.ensures.1 in
+    let h = c.in_err-n.ensures in
+    rw (p.1, p.2, h.0) (named_missing _ _ _ _ _ c.requires.0 (omega (arith, c.line.ensures.up_to)) h.1)
 
 pub judge_content-requires : goal.judge_content-requires
-judge_content-requires c = let h = told_of _ _ _ _ _ c.places_of.ensures _ c.in-Of.is in
-    (c.requires.0, c.requires.1, c.requires.2, c.requires.3, h.2, h.1)
+unfolding PlacesAre
+judge_content-requires c = let h = c.in_ok-n.ensures in (c.requires.0, c.requires.1, h.2, h.1)
 
-pub returns-in-Undeclared : goal.returns-in-Undeclared
-returns-in-Undeclared c = named_missing _ _ _ _ _ c.requires.0 (omega (arith, c.line_of-line.ensures.up_to)) (told_missing _ _ _ _ _ c.places_of.ensures c.in-Undeclared.is)
-
-pub returns-in-Of : goal.returns-in-Of
-returns-in-Of c = let h = told_of _ _ _ _ _ c.places_of.ensures _ c.in-Of.is in
-    named_rest _ _ _ _ _ c.requires.0 (omega (arith, c.line_of-line.ensures.up_to)) _ h.0 c.judge_content.ensures
+pub returns : goal.returns
+unfolding PlacesAre
+returns c = let h = c.in_ok-n.ensures in named_rest _ _ _ _ _ c.requires.0 (omega (arith, c.line.ensures.up_to)) _ h.0 c.judge_content.ensures

@@ -1,12 +1,14 @@
-use Rattle.std.proofs.Common.{arith}
-use Rattle.job.proofs.Judging.{names_none, names_missing, names_one}
+use Rattle.std.proofs.Common.{◌≡◌, arith}
+use Rattle.std.proofs.lemmas.Grind.{common_steps}
+use Rattle.std.proofs.lemmas.Option.{gets}
+use Rattle.std.specs.List.{slice_get}
+use Rattle.job.proofs.Judging.{names_none, names_found}
 use Rattle.job.proofs.judge.places_of.Goals as goal
 
 pub returns-then-line-eq0 : goal.returns-then-line-eq0
-returns-then-line-eq0 c = names_none _ _ _ _ _ c.line_of-line.ensures c.if-line-eq0.true
-
-pub returns-then-p-predicate : goal.returns-then-p-predicate
-returns-then-p-predicate c = names_missing _ _ _ _ _ c.line_of-line.ensures _ c.if-line-eq0.false c.byte-predicate.ensures.0 c.if-p-predicate.true
+returns-then-line-eq0 c = names_none _ _ _ _ _ c.line-line.ensures c.if-line-eq0.true
 
 pub returns : goal.returns
-returns c = rw c.requires.4 (names_one _ _ _ _ _ c.line_of-line.ensures _ c.if-line-eq0.false c.byte-predicate.ensures.0 c.requires.3 (omega arith))
+returns c =
+    let e : c.copied.result ≡ slice_get c.args.p.now.arities c.byte-predicate.result = grind (arith, common_steps, gets) in
+    rw (c.ok_or.ensures.value, e) (names_found _ _ _ _ _ c.line-line.ensures _ c.if-line-eq0.false c.byte-predicate.ensures.0 c.requires)

@@ -1,8 +1,12 @@
-use Rattle.job.proofs.Bounds.{positive_bound, negated_bound}
+use Rattle.std.proofs.Common.{◌∙◌, ap, sym}
+use Rattle.job.specs.Bound.{free}
+use Rattle.job.proofs.Bounds.{literal_bound, literal_unbound}
 use Rattle.job.proofs.range.unbound_literal.Goals as goal
 
-pub returns-then-byte-eq0 : goal.returns-then-byte-eq0
-returns-then-byte-eq0 c = λ b h. positive_bound _ _ _ _ _ b h c.byte.ensures.0 c.if-byte-eq0.true
+pub returns-then-byte-ne0 : goal.returns-then-byte-ne0
+returns-then-byte-ne0 c = λ b h.
+    c.free_terms.ensures ∙ ap (λ x. free c.args.bound.now x.terms) c.literal_in.ensures
+    ∙ literal_unbound _ _ _ _ b h (λ z. c.if-byte-ne0.true (c.byte.ensures.0 ∙ z))
 
-pub returns : goal.returns
-returns c = λ b h. negated_bound _ _ _ _ _ b h _ _ c.requires.1 c.byte.ensures.0 c.if-byte-eq0.false c.literal_in.ensures c.free_terms.ensures
+pub returns-else-byte-ne0 : goal.returns-else-byte-ne0
+returns-else-byte-ne0 c = λ b h. rw c.if-byte-ne0.false (literal_bound _ _ _ _ b h (sym c.byte.ensures.0 ∙ c.if-byte-ne0.false))

@@ -1,5 +1,6 @@
-use Rattle.lines.proofs.Texts as texts
+use Rattle.lines.proofs.Puts.{written_as, written_then}
+use Rattle.lines.proofs.Texts.{spaced_one}
 use Rattle.lines.proofs.put.put_spaced.Goals as goal
 
 pub returns : goal.returns
-returns c = texts.put_spaced _ c.put-next.ensures c.put_number.ensures
+returns c = written_as (spaced_one _) (written_then c.put-at.ensures c.put_number.ensures)

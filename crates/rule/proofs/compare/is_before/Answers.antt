@@ -2,7 +2,7 @@ use Rattle.rule.proofs.Comparisons.{none_ahead, some_ahead}
 use Rattle.rule.proofs.compare.is_before.Goals as goal
 
 pub returns-then-ahead-ge1 : goal.returns-then-ahead-ge1
-returns-then-ahead-ge1 c = some_ahead _ _ _ c.wrapping_sub_u32-ahead.type_inv c.ranges.a.fits c.wrapping_sub_u32-ahead.ensures.value c.if-ahead-ge1.true
+returns-then-ahead-ge1 c = some_ahead _ _ c.ranges.a.fits c.if-ahead-ge1.true
 
 pub returns-else-ahead-ge1 : goal.returns-else-ahead-ge1
-returns-else-ahead-ge1 c = none_ahead _ _ _ c.wrapping_sub_u32-ahead.type_inv c.ranges.a.fits c.wrapping_sub_u32-ahead.ensures.value c.if-ahead-ge1.false
+returns-else-ahead-ge1 c = none_ahead _ _ c.ranges.a.fits c.if-ahead-ge1.false

@@ -1,2 +1,0 @@
--- How an answer is told in numbers.
-pub mod Tells

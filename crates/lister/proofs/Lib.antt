@@ -1,2 +1,0 @@
--- When a word is the lister's.
-pub mod Words

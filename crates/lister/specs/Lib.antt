@@ -1,2 +1,0 @@
--- The lister's one word.
-pub mod Word
