@@ -11,6 +11,7 @@ use ground::{Ending, ground};
 // How a refusal is told in place of an ending.
 const REFUSED: u32 = 3;
 
+// What C is told.
 fn number(ending: Ending) -> u32
     ensures { result ≡ number_of (ending_of ending) }
 {

@@ -16,6 +16,7 @@ pub fn read_full<R: Read>(reader: &mut R, buffer: &mut [u8]) -> io::Result<usize
     ensures whole { IfOk result (λ n. n < length buffer.new → IsAtEnd (R.remaining reader.new)) }
 {
     let mut filled = 0;
+    // The library's calls do not say how far a short input came, but those that fill a heap.
     while filled < buffer.len() {
         let n = reader.read(&mut buffer[filled..])?;
         if n == 0 {

@@ -63,6 +63,7 @@ pub fn read_job(
         return ended(Err(refusal), p);
     }
     let mut at = 0usize;
+    // From field to field, each as long as it says: nothing is counted.
     while at < bytes.len() {
         let start = Start { bytes, at };
         match judge(start, &p) {

@@ -1,5 +1,5 @@
--- Laws of `tab`, which match a loop over an array's first cells: a search, a greatest, a fill, and the list of those that pass.
-use Prim.Native.Nat.{ℕ, zero, suc, ◌+◌, ◌≤◌, ◌<◌, max}
+-- Laws of `tab`, which match a loop over an array's first cells: a search, a fill, and the list of those that pass.
+use Prim.Native.Nat.{ℕ, zero, suc, ◌+◌, ◌≤◌, ◌<◌}
 use mathlib.Core.Path.{◌≡◌, refl, sym, ap, ◌∙◌}
 use mathlib.Core.Bool.{Bool, true, false, ◌||◌}
 use mathlib.Core.Logic.{⊎_elim, inl, inr}
@@ -64,12 +64,6 @@ module _ {A : Type 0} (F : List A → Bool) (none : F [] ≡ false) (join : (xs 
       (λ l. rw (join (tab n f) (f n ∷ []), search_hit n i l q) refl)
       (eq-or-lt_of_le (omega arith))
 
--- a greatest: G of a list is the greatest of its elements'
-module _ {A : Type 0} (G : List A → ℕ) (join : (xs ys : List A) → G (xs ++ ys) ≡ max (G xs) (G ys)) (f : ℕ → A) where
-  pub most_more : (i : ℕ) → G (tab (i + 1) f) ≡ max (G (tab i f)) (G (f i ∷ []))
-  unfolding tab
-  most_more i = rw (add-one, join (tab i f) (f i ∷ [])) refl
-
 -- a search by a test
 module _ {A : Type 0} (g : A → Bool) (f : ℕ → A) where
   any_nil : any g [] ≡ false
@@ -124,9 +118,6 @@ module _ {A : Type 0} (f : ℕ → A) where
   pub fill_more : (l : List A) (i : ℕ) (x : A) → i < length l → take i l ≡ tab i f → x ≡ f i → take (i + 1) (set l i x) ≡ tab (i + 1) f
   unfolding tab
   fill_more l i x h e q = rw (add-one, take-suc-set l i x h, e, q) refl
-
-  pub fill_all : (l : List A) (i n : ℕ) → i ≡ n → length l ≤ i → take i l ≡ tab i f → l ≡ tab n f
-  fill_all l i n q h e = sym (take_all i l h) ∙ e ∙ ap (λ (k : ℕ). tab k f) q
 
 pub any_tab_elim : {A : Type 0} (g : A → Bool) (f : ℕ → A) (n : ℕ) → any g (tab n f) ≡ true → (i : ℕ) × (i < n) × (g (f i) ≡ true)
 unfolding tab

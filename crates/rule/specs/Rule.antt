@@ -48,9 +48,6 @@ body_of r = map item_of r.items
 abbrev pub head_of : ItemR → Head
 head_of x = record { predicate = x.predicate; terms = terms_of x }
 
-abbrev pub head_at : RuleR → ℕ → Head
-head_at r i = head_of (slice_index_or r.heads i no_item)
-
 unfoldable pub heads_of : RuleR → List Head
 heads_of r = map head_of r.heads
 
