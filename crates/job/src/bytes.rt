@@ -9,6 +9,7 @@ pub fn byte(bytes: &[u8], i: usize) -> usize
     bytes.get(i).map_or(0, |b| usize::from(*b))
 }
 
+// By hand: a byte past the end is 0 here, and the library reads none.
 pub fn two(bytes: &[u8], i: usize) -> usize
     requires { i < farthest }
     ensures { (result ≡ be16 bytes.now i) × (result < 65536) }

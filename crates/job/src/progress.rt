@@ -8,7 +8,7 @@ use rule::at_most::AtMost;
 use rule::{HEAD_LIMIT, PREDICATE_LIMIT, Rule, VARIABLE_LIMIT};
 
 // The last field's group; the places of the heads; which variables the positive literals hold; the rule; of each predicate its arity and
-// how many rows it has; how many rows there are.
+// how many rows it has, in an array, since it is counted up in place; how many rows there are.
 #[derive(Drop)]
 pub struct Progress {
     pub group: usize,

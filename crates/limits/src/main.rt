@@ -15,6 +15,7 @@ const PATH_ROOM: usize = 4096;
 
 const FILE_ROOM: usize = 65536;
 
+// Used once: a Display would be this match with a type around it.
 fn say(rt: &impl Print, verdict: Result<(), Refusal>) -> io::Result<()> {
     match verdict {
         Ok(()) => println!(rt; "accepted"),

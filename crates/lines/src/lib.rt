@@ -38,7 +38,7 @@ fn put_entries(out: &mut [u8], entries: usize, size: usize, cells: &[u32]) -> us
     at
 }
 
-// The first line: the relevant variables.
+// The first line: the relevant variables. They are of another type than cells, so the three lines that space them stand twice.
 fn put_vars(out: &mut [u8], relevant: &[usize]) -> usize
     ensures { Written (line (vars ++ spaced relevant.now)) out.old out.new result }
 {

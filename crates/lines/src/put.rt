@@ -11,6 +11,7 @@ pub fn put(out: &mut [u8], text: &[u8]) -> usize
     many
 }
 
+// By hand, as the number is: two edits that must be refused are wrong digits.
 fn digit(n: usize) -> u8
     requires { n < 10 }
     ensures { result ≡ 48 + n }

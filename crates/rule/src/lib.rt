@@ -1,6 +1,8 @@
 // The rule as the code holds it; how it stands for a rule of the meaning is in specs/. The limits of document 01 have their names here.
 #![tactic(auto)]
 
+ghost use Rattle.std.specs.Prelude.{◌≡◌};
+
 pub mod at_most;
 pub mod compare;
 
@@ -54,6 +56,10 @@ pub enum Term {
 }
 
 impl Default for Term {
+    ghost use Rattle.rule.specs.declared.Term.TheVariants.{Number};
+
+    ghost is_default = { λ t. t ≡ Number 0 };
+
     fn default() -> Term {
         Term::Number(0)
     }
