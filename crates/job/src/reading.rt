@@ -14,7 +14,7 @@ use rule::{CELL_LIMIT, INDEX_LIMIT, JOB_LIMIT, PREDICATE_LIMIT, Rule};
 
 // The job, beside the rows' cells and their index: row n of the job has its cells at 4n to 4n + 3 of `cells`, and row k of predicate p is
 // row `index[ROW_LIMIT * p + k]` of the job. Of each predicate its arity and how many rows it has; how many rows there are.
-#[derive(Drop)]
+#[derive(Clone, Copy)]
 pub struct Made {
     pub rule: Rule,
     pub arities: AtMost<usize, PREDICATE_LIMIT>,
@@ -22,7 +22,7 @@ pub struct Made {
     pub total: usize,
 }
 
-#[derive(Drop)]
+#[derive(Clone, Copy)]
 pub struct ReadJob {
     pub verdict: Result<(), Refusal>,
     pub made: Made,

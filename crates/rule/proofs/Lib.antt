@@ -1,3 +1,4 @@
 -- The laws of the kinds.
+pub mod Blanks
 pub mod Items
 pub mod Comparisons

@@ -6,7 +6,7 @@ ghost use Rattle.std.specs.Prelude.{◌≡◌};
 pub mod at_most;
 pub mod compare;
 
-use crate::at_most::AtMost;
+use crate::at_most::{AtMost, Blank};
 
 pub const JOB_LIMIT: usize = 32768;
 
@@ -65,16 +65,37 @@ impl Default for Term {
     }
 }
 
+impl Blank for Term {
+    ghost use Rattle.rule.specs.declared.Term.TheVariants.{Number};
+
+    ghost blank = { Number 0 };
+
+    fn blank() -> Term {
+        Term::default()
+    }
+}
+
 // A head, or an item of the body. A comparison names no predicate.
-#[derive(Drop, Default)]
+#[derive(Clone, Copy, Default)]
 pub struct Item {
     pub kind: Kind,
     pub predicate: usize,
     pub terms: AtMost<Term, ARITY_LIMIT>,
 }
 
+impl Blank for Item {
+    ghost use Rattle.std.specs.Prelude.{[]};
+    ghost use Rattle.rule.specs.declared.Kind.TheVariants.{Positive};
+
+    ghost blank = { record { kind = Positive; predicate = 0; terms = [] } };
+
+    fn blank() -> Item {
+        Item::default()
+    }
+}
+
 // The body, the heads, and of each predicate whether it is solved.
-#[derive(Drop, Default)]
+#[derive(Clone, Copy, Default)]
 pub struct Rule {
     pub items: AtMost<Item, ITEM_LIMIT>,
     pub heads: AtMost<Item, HEAD_LIMIT>,
