@@ -2,12 +2,12 @@
 #![tactic(auto)]
 
 ghost use Rattle.std.specs.Prelude.{[], ◌∷◌, ◌++◌, ◌≡◌, take};
-ghost use Rattle.lines.specs.Lines.{vars, spaced, line, entry_line, entry_lines, word_of, run_lines, lines_of};
+ghost use Rattle.lines.specs.Lines.{vars, refused, spaced, line, entry_line, entry_lines, word_of, run_lines, lines_of};
 ghost use Rattle.lines.specs.Written.{Written};
 
 mod put;
 
-use crate::put::{put, put_number, put_spaced};
+use crate::put::{put, put_byte, put_number, put_spaced};
 use ground::{Answer, Ended, Ending, Shape};
 
 // An entry's line: its cells, one space between them.
@@ -15,13 +15,13 @@ fn put_entry(out: &mut [u8], cells: &[u32]) -> usize
     ensures { Written (entry_line cells.now) out.old out.new result }
 {
     let Some((first, rest)) = cells.split_first() else {
-        return put(out, b"\n");
+        return put_byte(out, b'\n');
     };
     let mut at = put_number(out, *first as usize);
     for cell in rest {
         at += put_spaced(&mut out[at..], *cell as usize);
     }
-    at + put(&mut out[at..], b"\n")
+    at + put_byte(&mut out[at..], b'\n')
 }
 
 // The lines of so many entries, from the start of the cells on. Cells past the end are left out.
@@ -46,7 +46,7 @@ fn put_vars(out: &mut [u8], relevant: &[usize]) -> usize
     for variable in relevant {
         at += put_spaced(&mut out[at..], *variable);
     }
-    at + put(&mut out[at..], b"\n")
+    at + put_byte(&mut out[at..], b'\n')
 }
 
 // The last line: an ending, entries and tests, or a refusal, its number and place.
@@ -56,7 +56,7 @@ fn put_answer(out: &mut [u8], word: &[u8], first: usize, second: usize) -> usize
     let mut at = put(out, word);
     at += put_spaced(&mut out[at..], first);
     at += put_spaced(&mut out[at..], second);
-    at + put(&mut out[at..], b"\n")
+    at + put_byte(&mut out[at..], b'\n')
 }
 
 // The word for how a search ended.
@@ -79,15 +79,19 @@ fn put_run(out: &mut [u8], ended: Ended, shape: Shape, list: &[u32]) -> usize
     at + put_answer(&mut out[at..], word(ended.ending), ended.entries, tests)
 }
 
+// The line for a refusal, written as `write_lines` writes it: of any number, also of one that no fault has.
+pub fn write_refusal(number: usize, place: usize, out: &mut [u8]) -> usize
+    ensures { Written (line (refused ++ spaced (number ∷ place ∷ []))) out.old out.new result }
+{
+    put_answer(out, b"refused", number, place)
+}
+
 // The text for an answer, written into `out` from the start as far as it has room. Returns how many bytes were written.
 pub fn write_lines(answer: Answer, shape: Shape, list: &[u32], out: &mut [u8]) -> usize
     ensures { Written (lines_of answer (take shape.relevants shape.relevant) shape.entry list.now) out.old out.new result }
 {
     match answer {
         Ok(ended) => put_run(out, ended, shape, list),
-        Err(refusal) => {
-            let number = usize::from(refusal.fault);
-            put_answer(out, b"refused", number, refusal.place)
-        }
+        Err(refusal) => write_refusal(usize::from(refusal.fault), refusal.place, out),
     }
 }

@@ -8,4 +8,4 @@ unfolding line
 returns c =
     written_then
     (written_as (spaced_two _ _ _) (written_then (written_then c.put-at.ensures c.put_spaced-at.ensures) c.put_spaced-at-2.ensures))
-    c.put.ensures
+    c.put_byte.ensures

@@ -13,4 +13,4 @@ loop-variable-preserved c =
 
 pub returns : goal.returns
 unfolding line
-returns c = written_then (written_as (spaced_all vars _ _ (omega arith)) c.loop-variable.invariant) c.put.ensures
+returns c = written_then (written_as (spaced_all vars _ _ (omega arith)) c.loop-variable.invariant) c.put_byte.ensures

@@ -7,4 +7,4 @@ returns-in-Ok c = rw c.in-Ok.is c.put_run.ensures
 
 pub returns-in-Err : goal.returns-in-Err
 unfolding lines_of
-returns-in-Err c = rw (c.in-Err.is, ← c.from-number.ensures) c.put_answer.ensures
+returns-in-Err c = rw (c.in-Err.is, ← c.from.ensures) c.write_refusal.ensures
