@@ -4,6 +4,8 @@
 ghost use Rattle.std.specs.Prelude.{◌≤◌, ◌<◌, IfOk, length, take};
 ghost use Rattle.std.specs.Io.KnownBytes.{Consumes, IsAtEnd};
 
+#[cfg(test)]
+use std::fs;
 use std::fs::File;
 use std::io;
 use std::io::Read;
@@ -72,6 +74,45 @@ fn a_short_input_is_read_to_its_end(rt: HostRuntime) {
 #[test]
 fn a_failed_open_is_told(rt: HostRuntime) {
     let told = tell_failed(&rt, "no job", io::Error::from(io::ErrorKind::NotFound));
+    assert!(rt; told.is_ok());
+}
+
+// The work of the tests with a file: an answer that only it gives, where the file has five bytes.
+fn break_at_five<R: Read>(file: &mut R) -> io::Result<()> {
+    let mut buffer = [0u8; 8];
+    match read_full(file, &mut buffer)? {
+        5 => Err(io::Error::from(io::ErrorKind::BrokenPipe)),
+        _ => Ok(()),
+    }
+}
+
+#[test]
+fn the_work_is_done_with_the_file(rt: HostRuntime) {
+    let path = "input_test_night";
+    assert!(rt; fs::write(&rt, path, b"night".as_slice()).is_ok());
+    let worked = with_file(&rt, path.as_bytes(), |mut file| break_at_five(&mut file));
+    let removed = fs::remove_file(&rt, path);
+    assert!(rt; removed.is_ok());
+    let broken = match worked {
+        Ok(()) => false,
+        Err(error) => error.kind() == io::ErrorKind::BrokenPipe,
+    };
+    assert!(rt; broken);
+}
+
+#[test]
+fn a_path_that_names_no_file_is_told(rt: HostRuntime) {
+    let told = with_file(
+        &rt,
+        b"input_test_no_such_file",
+        |mut file| break_at_five(&mut file),
+    );
+    assert!(rt; told.is_ok());
+}
+
+#[test]
+fn a_path_that_is_no_text_is_told(rt: HostRuntime) {
+    let told = with_file(&rt, b"\xff", |mut file| break_at_five(&mut file));
     assert!(rt; told.is_ok());
 }
 
